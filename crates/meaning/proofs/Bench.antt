@@ -1,0 +1,9 @@
+-- The bench examples hold, computed by the checker. Assumes nothing.
+use Rattle.meaning.specs.Paths.{completePaths}
+use Rattle.meaning.specs.Judge.{judged}
+use Rattle.meaning.specs.Desk.{output}
+use Rattle.meaning.specs.Bench.{Right}
+
+pub bench : Right
+unfolding output judged completePaths
+bench = tt

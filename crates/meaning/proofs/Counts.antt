@@ -1,0 +1,114 @@
+-- A whole table's four counts: they add up, and more budget never lowers the first two. Assumes nothing.
+use mathlib.Core.Path.{_≡_, refl, ap, ap₂, _∙_}
+use Prim.Native.Nat.{ℕ, zero, suc, _+_, _≤_}
+use native.Mathlib.Nat.{le-refl}
+use native.Mathlib.Omega.{arith}
+use native.Mathlib.Decide.{decLt}
+use mathlib.Core.Bool.{Bool, true, false}
+use mathlib.Core.Option.{Option, none, some}
+use mathlib.Core.List.{List, [], _∷_, map}
+use lib.ListN.{length, length-map, length-append}
+use lib.Dec.{T}
+use borrow.Author.Tests.{lt-ltb, le-ltb}
+use Rattle.meaning.specs.Lists.{pick, those, countFrom, below}
+use Rattle.meaning.specs.Table.{Task, Table, higher}
+use Rattle.meaning.specs.Groups.{count, witness}
+use Rattle.meaning.specs.Verdict.{Verdict, meets, misses, unfinished, refused, Listed, loadOf, topOf, decided, budgeted, walked, walkedAt, ownE, deadline}
+use Rattle.meaning.specs.Judge.{Row, row9, row10, firstRow, unlessRefused}
+use Rattle.meaning.specs.Whole.{Place, placesFrom, places, verdictAt, verdicts, isMeets, isMisses, isUnfinished, isRefused, countsOf}
+use Rattle.meaning.specs.Demands.{vertexTotal}
+
+-- ---- the four add up
+
+one-kind : (vs : List Verdict) → length (those isMeets vs) + length (those isMisses vs) + length (those isUnfinished vs) + length (those isRefused vs) ≡ length vs
+one-kind [] = refl
+one-kind (meets c ∷ vs) = omega (arith, one-kind vs)
+one-kind (misses c ws ∷ vs) = omega (arith, one-kind vs)
+one-kind (unfinished b ∷ vs) = omega (arith, one-kind vs)
+one-kind (refused k n ∷ vs) = omega (arith, one-kind vs)
+
+length-count : (a n : ℕ) → length (countFrom a n) ≡ n
+length-count a zero = refl
+length-count a (suc n) = ap suc (length-count (suc a) n)
+
+length-places : (i : ℕ) (ts : List Task) → length (placesFrom i ts) ≡ vertexTotal ts
+length-places i [] = refl
+length-places i (t ∷ ts) =
+    length-append (map (λ (v : ℕ). record { task = i; vertex = v }) (below (length (t .vertices)))) (placesFrom (suc i) ts)
+    ∙ ap₂ _+_ (length-map (below (length (t .vertices))) _ ∙ length-count 0 (length (t .vertices))) (length-places (suc i) ts)
+
+-- the four add up to the number of vertices
+pub counts-all : (ts : Table) (b work : ℕ) → (let n = countsOf (verdicts ts b work) in n .meeting + n .missing + n .unfinishing + n .refusing) ≡ vertexTotal ts
+counts-all ts b work = one-kind (verdicts ts b work) ∙ length-map (places ts) (verdictAt ts b work) ∙ length-places 0 ts
+
+-- ---- more budget changes an unfinished verdict only
+
+abbrev Kept : Verdict → Verdict → Type 0
+Kept (meets c) y = y ≡ meets c
+Kept (misses c ws) y = y ≡ misses c ws
+Kept (unfinished b) y = Unit {0}
+Kept (refused k n) y = y ≡ refused k n
+
+kept-decided : (c : ℕ) (o : Option (List Listed)) → Kept (decided c o) (decided c o)
+kept-decided c none = refl
+kept-decided c (some x) = refl
+
+kept-budgeted : (b b′ c : ℕ) (o : Option (List Listed)) → b ≤ b′ → Kept (budgeted b c o) (budgeted b′ c o)
+kept-budgeted b b′ c o h =
+    elim (decLt b c) [ yes k ↦ rw (lt-ltb b c k) tt | no k ↦ rw (le-ltb b c (omega arith), le-ltb b′ c (omega arith)) (kept-decided c o) ]
+
+kept-unless : (o : Option Row) (x y : Verdict) → Kept x y → Kept (unlessRefused o x) (unlessRefused o y)
+kept-unless none x y k = k
+kept-unless (some r) x y k = refl
+
+kept-walked : (ks : List Task) (e d b b′ : ℕ) → b ≤ b′ → Kept (walked b ks e d) (walked b′ ks e d)
+unfolding walked
+kept-walked ks e d b b′ h = kept-budgeted b b′ (count loadOf e d (topOf ks d)) (witness loadOf e d (topOf ks d)) h
+
+kept-at : (ts : Table) (work : ℕ) (q : Place) (b b′ : ℕ) → b ≤ b′ → Kept (verdictAt ts b work q) (verdictAt ts b′ work q)
+unfolding verdictAt
+kept-at ts work q b b′ h =
+    kept-unless (firstRow (row9 ts (q .task) (q .vertex) ∷ row10 ts (q .task) (q .vertex) work ∷ [])) (walkedAt ts (q .task) (q .vertex) b) (walkedAt ts (q .task) (q .vertex) b′)
+    (kept-walked (higher ts (q .task)) (ownE ts (q .task) (q .vertex)) (deadline ts (q .task) (q .vertex)) b b′ h)
+
+-- a kind of verdict that more budget keeps
+abbrev Lasting : (Verdict → Bool) → Type 0
+Lasting f = (x y : Verdict) → Kept x y → T (f x) → T (f y)
+
+meets-last : Lasting isMeets
+meets-last (meets c) y k t = rw k tt
+meets-last (misses c cs) y k t = absurd t
+meets-last (unfinished b) y k t = absurd t
+meets-last (refused c n) y k t = absurd t
+
+misses-last : Lasting isMisses
+misses-last (meets c) y k t = absurd t
+misses-last (misses c cs) y k t = rw k tt
+misses-last (unfinished b) y k t = absurd t
+misses-last (refused c n) y k t = absurd t
+
+pick-mono : (a b : Bool) (n m : ℕ) → (T a → T b) → n ≤ m → pick a (suc n) n ≤ pick b (suc m) m
+pick-mono true true n m f h = omega arith
+pick-mono true false n m f h = absurd (f tt)
+pick-mono false true n m f h = omega arith
+pick-mono false false n m f h = h
+
+those-count : (f : Verdict → Bool) (x : Verdict) (xs : List Verdict) → length (those f (x ∷ xs)) ≡ pick (f x) (suc (length (those f xs))) (length (those f xs))
+those-count f x xs = go (f x)
+  where
+    go : (t : Bool) → length (pick t (x ∷ those f xs) (those f xs)) ≡ pick t (suc (length (those f xs))) (length (those f xs))
+    go true = refl
+    go false = refl
+
+more-of : {A : Type 0} (k : Verdict → Bool) → Lasting k → (f g : A → Verdict) → ((a : A) → Kept (f a) (g a)) → (xs : List A) → length (those k (map f xs)) ≤ length (those k (map g xs))
+more-of k l f g h [] = le-refl 0
+more-of k l f g h (x ∷ xs) =
+    rw (those-count k (f x) (map f xs), those-count k (g x) (map g xs))
+    (pick-mono (k (f x)) (k (g x)) (length (those k (map f xs))) (length (those k (map g xs))) (l (f x) (g x) (h x)) (more-of k l f g h xs))
+
+-- more budget never lowers the first two counts
+pub meets-mono : (ts : Table) (work b b′ : ℕ) → b ≤ b′ → countsOf (verdicts ts b work) .meeting ≤ countsOf (verdicts ts b′ work) .meeting
+meets-mono ts work b b′ h = more-of isMeets meets-last (verdictAt ts b work) (verdictAt ts b′ work) (λ q. kept-at ts work q b b′ h) (places ts)
+
+pub misses-mono : (ts : Table) (work b b′ : ℕ) → b ≤ b′ → countsOf (verdicts ts b work) .missing ≤ countsOf (verdicts ts b′ work) .missing
+misses-mono ts work b b′ h = more-of isMisses misses-last (verdictAt ts b work) (verdictAt ts b′ work) (λ q. kept-at ts work q b b′ h) (places ts)

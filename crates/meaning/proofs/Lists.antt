@@ -1,0 +1,118 @@
+-- Laws of the words on lists: tests, members, the largest. Assumes nothing.
+use mathlib.Core.Path.{_≡_, refl, sym, ap, subst, _∙_}
+use Prim.Native.Nat.{ℕ, zero, suc, _+_, _≤_, _<_}
+use native.Mathlib.Decide.{ℕ-discrete}
+use native.Mathlib.Omega.{arith}
+use mathlib.Core.Bool.{Bool, true, false, _&&_}
+use mathlib.Core.Logic.{_⊎_, inl, inr}
+use mathlib.Core.List.{List, [], _∷_, _++_, map, append-assoc, List·Memᴰ, List·Memᴰ·head, List·Memᴰ·tail, Memᴰ·append-left, Memᴰ·append-right, List·Memᴰ·append-cases, List·Memᴰ·not-nil}
+use lib.ListN.{take}
+use lib.Dec.{T}
+use Rattle.meaning.specs.Lists.{pick, all, those, largest, gather, countFrom}
+
+-- ---- tests
+
+pub both : (a b : Bool) → T a → T b → T (a && b)
+both true b x y = y
+both false b x y = x
+
+pub both-left : (a b : Bool) → T (a && b) → T a
+both-left true b t = tt
+both-left false b t = t
+
+pub both-right : (a b : Bool) → T (a && b) → T b
+both-right true b t = t
+both-right false b t = absurd t
+
+pub is-true : (b : Bool) → T b → b ≡ true
+is-true true t = refl
+is-true false t = absurd t
+
+pub is-false : (b : Bool) → (T b → ⊥) → b ≡ false
+is-false true f = absurd (f tt)
+is-false false f = refl
+
+pub and-false : (b : Bool) → (b && false) ≡ false
+and-false true = refl
+and-false false = refl
+
+module _ {X : Type 0} where
+  pub all-mem : (f : X → Bool) (xs : List X) → T (all f xs) → {x : X} → List·Memᴰ x xs → T (f x)
+  all-mem f [] t m = absurd (List·Memᴰ·not-nil m)
+  all-mem f (y ∷ ys) t {x} (List·Memᴰ·head q) = subst (λ (z : X). T (f z)) (sym q) (both-left (f y) (all f ys) t)
+  all-mem f (y ∷ ys) t (List·Memᴰ·tail m) = all-mem f ys (both-right (f y) (all f ys) t) m
+
+  pub mem-all : (f : X → Bool) (xs : List X) → ((x : X) → List·Memᴰ x xs → T (f x)) → T (all f xs)
+  mem-all f [] h = tt
+  mem-all f (y ∷ ys) h = both (f y) (all f ys) (h y (List·Memᴰ·head refl)) (mem-all f ys (λ x m. h x (List·Memᴰ·tail m)))
+
+  -- ---- those
+
+  keep : (b : Bool) (y : X) {x : X} {ys : List X} → List·Memᴰ x ys → List·Memᴰ x (pick b (y ∷ ys) ys)
+  keep true y m = List·Memᴰ·tail m
+  keep false y m = m
+
+  keep-head : (b : Bool) (ys : List X) {x y : X} → T b → x ≡ y → List·Memᴰ x (pick b (y ∷ ys) ys)
+  keep-head true ys t q = List·Memᴰ·head q
+  keep-head false ys t q = absurd t
+
+  pub mem-those : (f : X → Bool) {x : X} {xs : List X} → List·Memᴰ x xs → T (f x) → List·Memᴰ x (those f xs)
+  mem-those f (List·Memᴰ·head {x = y} {xs = ys} q) t = keep-head (f y) (those f ys) (subst (λ (z : X). T (f z)) q t) q
+  mem-those f (List·Memᴰ·tail {x = y} {xs = ys} m) t = keep (f y) y (mem-those f m t)
+
+  pub those-mem : (f : X → Bool) (xs : List X) {x : X} → List·Memᴰ x (those f xs) → List·Memᴰ x xs × T (f x)
+  those-mem f [] m = absurd (List·Memᴰ·not-nil m)
+  those-mem f (y ∷ ys) {x} m = go (λ k. those-mem f ys k) (f y) refl m
+    where
+      more : List·Memᴰ x ys × T (f x) → List·Memᴰ x (y ∷ ys) × T (f x)
+      more r = (List·Memᴰ·tail (r .0), r .1)
+
+      go : (List·Memᴰ x (those f ys) → List·Memᴰ x ys × T (f x)) → (b : Bool) → f y ≡ b → List·Memᴰ x (pick b (y ∷ those f ys) (those f ys)) → List·Memᴰ x (y ∷ ys) × T (f x)
+      go ih true h (List·Memᴰ·head q) = (List·Memᴰ·head q, subst (λ (z : X). T (f z)) (sym q) (subst T (sym h) tt))
+      go ih true h (List·Memᴰ·tail k) = more (ih k)
+      go ih false h k = more (ih k)
+
+  pub mem-take : (n : ℕ) (xs : List X) {x : X} → List·Memᴰ x (take n xs) → List·Memᴰ x xs
+  mem-take zero xs m = absurd (List·Memᴰ·not-nil m)
+  mem-take (suc n) [] m = absurd (List·Memᴰ·not-nil m)
+  mem-take (suc n) (y ∷ ys) (List·Memᴰ·head q) = List·Memᴰ·head q
+  mem-take (suc n) (y ∷ ys) (List·Memᴰ·tail m) = List·Memᴰ·tail (mem-take n ys m)
+
+-- ---- gather
+
+module _ {X Y : Type 0} where
+  pub mem-gather : (f : X → List Y) {x : X} {xs : List X} {y : Y} → List·Memᴰ x xs → List·Memᴰ y (f x) → List·Memᴰ y (gather f xs)
+  mem-gather f {x} {y} (List·Memᴰ·head {x = z} {xs = zs} q) m = Memᴰ·append-left (gather f zs) (subst (λ (w : X). List·Memᴰ y (f w)) q m)
+  mem-gather f (List·Memᴰ·tail {x = z} {xs = zs} k) m = Memᴰ·append-right (f z) (mem-gather f k m)
+
+  pub gather-mem : (f : X → List Y) (xs : List X) {y : Y} → List·Memᴰ y (gather f xs) → (x : X) × List·Memᴰ x xs × List·Memᴰ y (f x)
+  gather-mem f [] m = absurd (List·Memᴰ·not-nil m)
+  gather-mem f (z ∷ zs) {y} m = go (λ k. gather-mem f zs k) (List·Memᴰ·append-cases (f z) m)
+    where
+      go : (List·Memᴰ y (gather f zs) → (x : X) × List·Memᴰ x zs × List·Memᴰ y (f x)) → List·Memᴰ y (f z) ⊎ List·Memᴰ y (gather f zs) → (x : X) × List·Memᴰ x (z ∷ zs) × List·Memᴰ y (f x)
+      go ih (inl k) = (z, List·Memᴰ·head refl, k)
+      go ih (inr k) = let r = ih k in (r .0, List·Memᴰ·tail (r .1), r .2)
+
+  pub gather-append : (f : X → List Y) (xs ys : List X) → gather f (xs ++ ys) ≡ gather f xs ++ gather f ys
+  gather-append f [] ys = refl
+  gather-append f (x ∷ xs) ys = ap (λ (l : List Y). f x ++ l) (gather-append f xs ys) ∙ sym (append-assoc (f x) (gather f xs) (gather f ys))
+
+  pub map-append : (f : X → Y) (xs ys : List X) → map f (xs ++ ys) ≡ map f xs ++ map f ys
+  map-append f [] ys = refl
+  map-append f (x ∷ xs) ys = ap (λ (l : List Y). f x ∷ l) (map-append f xs ys)
+
+-- ---- numbers
+
+pub mem-largest : {x : ℕ} {xs : List ℕ} → List·Memᴰ x xs → x ≤ largest xs
+mem-largest (List·Memᴰ·head q) = omega arith
+mem-largest (List·Memᴰ·tail m) = omega (arith, mem-largest m)
+
+pub mem-countFrom : (k n v : ℕ) → k ≤ v → v < k + n → List·Memᴰ v (countFrom k n)
+mem-countFrom k zero v a b = absurd (omega arith)
+mem-countFrom k (suc n) v a b =
+    elim (ℕ-discrete v k) [ yes q ↦ List·Memᴰ·head q | no q ↦ List·Memᴰ·tail (mem-countFrom (suc k) n v (omega arith) (omega arith)) ]
+
+pub countFrom-mem : (k n v : ℕ) → List·Memᴰ v (countFrom k n) → (k ≤ v) × (v < k + n)
+countFrom-mem k zero v m = absurd (List·Memᴰ·not-nil m)
+countFrom-mem k (suc n) v (List·Memᴰ·head q) = (omega arith, omega arith)
+countFrom-mem k (suc n) v (List·Memᴰ·tail m) = let r = countFrom-mem (suc k) n v m in (omega arith, omega arith)

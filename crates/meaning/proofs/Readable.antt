@@ -1,0 +1,296 @@
+-- What every readable text keeps, and where a refusal of a text can stand. Assumes nothing.
+use mathlib.Core.Path.{_≡_, refl, sym, subst, _∙_}
+use Prim.Native.Nat.{ℕ, zero, suc, _+_, _-_, _*_, _≤_, _<_, min}
+use native.Mathlib.Omega.{arith}
+use mathlib.Core.Bool.{Bool, true, false, _&&_, _||_}
+use mathlib.Core.Logic.{_⊎_, inl, inr}
+use mathlib.Core.Option.{Option, none, some}
+use mathlib.Core.List.{List, [], _∷_, _++_, List·Memᴰ, List·Memᴰ·head, List·Memᴰ·append-cases, List·Memᴰ·cases-cons, List·Memᴰ·eq-of-singleton, List·Memᴰ·not-nil}
+use lib.ListN.{length, getD, length-append, List·getD-append}
+use lib.Dec.{T, ltb, leb, eqb, leb→le, ltb→lt, eqb→eq}
+use Rattle.meaning.specs.Lists.{pick, Rising}
+use Rattle.meaning.specs.Bounds.{mostTasks, mostVertices, mostEdges, largestE, largestD, largestP}
+use Rattle.meaning.specs.Table.{Vertex, Edge, Task, Table, noVertex}
+use Rattle.meaning.specs.Text.{Line, frameOf, Begun, nothing, Step, on, over, wrong, within, closed, afterLast, gate, taskFrame, vertexFrame, edgeFrame, Wanted, aVertex, anEdge, aTask, wantedBy, isFrame, word, framed, stepAt, Reading, readable, unreadable, atEnd, readFrom, read, linesOf}
+use Rattle.meaning.specs.Sound.{SoundVertex, SoundEdge, EdgeBefore, SoundTask, AllSound, SoundTable}
+use Rattle.meaning.specs.Demands.{TextRefused}
+use Rattle.meaning.proofs.Lists.{both-left, both-right}
+use Rattle.meaning.proofs.Rising.{rising-one, rising-append}
+
+-- ---- one more at the end of a list
+
+each-snoc : {A : Type 0} {Q : A → Type 0} (xs : List A) (x : A) → ((y : A) → List·Memᴰ y xs → Q y) → Q x → (y : A) → List·Memᴰ y (xs ++ (x ∷ [])) → Q y
+each-snoc {A} {Q} xs x h q y m = go (List·Memᴰ·append-cases xs m)
+  where
+    go : List·Memᴰ y xs ⊎ List·Memᴰ y (x ∷ []) → Q y
+    go (inl k) = h y k
+    go (inr k) = subst Q (sym (List·Memᴰ·eq-of-singleton k)) q
+
+length-snoc : {A : Type 0} (xs : List A) (x : A) → length (xs ++ (x ∷ [])) ≡ suc (length xs)
+length-snoc xs x = rw length-append (omega arith)
+
+-- an edge stays sound when its task gets another vertex
+edge-snoc : (vs : List Vertex) (y : Vertex) (x : Edge) → SoundEdge vs x → SoundEdge (vs ++ (y ∷ [])) x
+edge-snoc vs y x s =
+    let more = length-snoc vs y in
+    record {
+      fromIn = omega (arith, s .fromIn);
+      toIn = omega (arith, s .toIn);
+      someP = s .someP;
+      mostP = s .mostP;
+      spaced = rw (List·getD-append vs (y ∷ []) noVertex (x .from) (s .fromIn)) (s .spaced);
+    }
+
+-- ---- edges in order
+
+before-trans : (x y z : Edge) → EdgeBefore x y → EdgeBefore y z → EdgeBefore x z
+before-trans x y z (inl a) (inl b) = inl (omega arith)
+before-trans x y z (inl a) (inr b) = inl (omega (arith, b .0))
+before-trans x y z (inr a) (inl b) = inl (omega (arith, a .0))
+before-trans x y z (inr a) (inr b) = inr (a .0 ∙ b .0, omega (arith, a .1, b .1))
+
+test-before : (a b c : Bool) (x y : Edge) → (T a → x .from < y .from) → (T b → x .from ≡ y .from) → (T c → x .to < y .to) → T (a || (b && c)) → EdgeBefore x y
+test-before true b c x y f g h t = inl (f tt)
+test-before false b c x y f g h t = inr (g (both-left b c t), h (both-right b c t))
+
+after-all : (es : List Edge) (x : Edge) → Rising EdgeBefore es → T (afterLast es x) → (y : Edge) → List·Memᴰ y es → EdgeBefore y x
+after-all [] x r t y m = absurd (List·Memᴰ·not-nil m)
+after-all (z ∷ []) x r t y m =
+    subst (λ (w : Edge). EdgeBefore w x) (sym (List·Memᴰ·eq-of-singleton m))
+    (test-before (ltb (z .from) (x .from)) (eqb (z .from) (x .from)) (ltb (z .to) (x .to)) z x (ltb→lt (z .from) (x .from)) (eqb→eq (z .from) (x .from)) (ltb→lt (z .to) (x .to)) t)
+after-all (z ∷ w ∷ es) x r t y m = go (after-all (w ∷ es) x (r .1) t) (List·Memᴰ·cases-cons m)
+  where
+    go : ((v : Edge) → List·Memᴰ v (w ∷ es) → EdgeBefore v x) → (y ≡ z) ⊎ List·Memᴰ y (w ∷ es) → EdgeBefore y x
+    go ih (inl q) = subst (λ (v : Edge). EdgeBefore v x) (sym q) (before-trans z w x (r .0 w (List·Memᴰ·head refl)) (ih w (List·Memᴰ·head refl)))
+    go ih (inr k) = ih y k
+
+rising-snoc : (es : List Edge) (x : Edge) → Rising EdgeBefore es → T (afterLast es x) → Rising EdgeBefore (es ++ (x ∷ []))
+rising-snoc es x r t =
+    rising-append EdgeBefore es (x ∷ []) r (rising-one EdgeBefore x)
+    (λ y z m n. subst (λ (w : Edge). EdgeBefore y w) (sym (List·Memᴰ·eq-of-singleton n)) (after-all es x r t y m))
+
+-- ---- what holds before line n
+
+record Held (n : ℕ) (s : Begun) : Type 0 where
+  tasks : AllSound (s .tasks)
+  taskCount : length (s .tasks) < mostTasks
+  vertexCount : length (s .vertices) + s .wantV ≤ mostVertices
+  edgeCount : length (s .edges) + s .wantE ≤ mostEdges
+  vertices : (x : Vertex) → List·Memᴰ x (s .vertices) → SoundVertex x
+  edges : (x : Edge) → List·Memᴰ x (s .edges) → SoundEdge (s .vertices) x
+  rising : Rising EdgeBefore (s .edges)
+  first : 1 ≤ n
+  -- 45 lines a whole task, then the open task's: it has a line of its own as soon as it has or wants a vertex
+  line : n ≤ 45 * length (s .tasks) + length (s .vertices) + length (s .edges) + 1 + min 1 (length (s .vertices) + s .wantV)
+
+record Number (k : ℕ) : Type 0 where
+  low : 1 ≤ k
+  high : k ≤ 5
+
+-- what a step at line n keeps
+abbrev Ok : ℕ → Step → Type 0
+Ok n (on s) = Held (suc n) s
+Ok n (over ts) = SoundTable ts × (n ≤ 361)
+Ok n (wrong k) = Number k
+
+gate-ok : (n : ℕ) (b : Bool) (k : ℕ) (s : Step) → Number k → (T b → Ok n s) → Ok n (gate b k s)
+gate-ok n true k s i h = h tt
+gate-ok n false k s i h = i
+
+pick-ok : (n : ℕ) (b : Bool) (x y : Step) → (T b → Ok n x) → Ok n y → Ok n (pick b x y)
+pick-ok n true x y a c = a tt
+pick-ok n false x y a c = c
+
+-- ---- the task that was just read to its end
+
+no-edges : (es : List Edge) → ((x : Edge) → List·Memᴰ x es → SoundEdge [] x) → length es ≡ 0
+no-edges [] h = refl
+no-edges (x ∷ es) h = absurd (omega (arith, h x (List·Memᴰ·head refl) .fromIn))
+
+record Closed (n : ℕ) (ts : Table) : Type 0 where
+  sound : AllSound ts
+  line : n ≤ 45 * length ts + 1
+  count : length ts ≤ mostTasks
+
+module _ (n : ℕ) (ts : List Task) (es : List Edge) (v e : ℕ) where
+  abbrev begun : List Vertex → Begun
+  begun vs = record { tasks = ts; vertices = vs; edges = es; wantV = v; wantE = e }
+
+  open-sound : (x : Vertex) (vs : List Vertex) → Held n (begun (x ∷ vs)) → SoundTask (record { vertices = x ∷ vs; edges = es })
+  open-sound x vs h =
+      record {
+        someVertex = omega arith;
+        vertexCount = omega (arith, h .vertexCount);
+        edgeCount = omega (arith, h .edgeCount);
+        eachVertex = h .vertices;
+        eachEdge = h .edges;
+        rising = h .rising;
+      }
+
+  closed-held : (vs : List Vertex) → v ≡ 0 → Held n (begun vs) → Closed n (closed (begun vs))
+  closed-held [] w h = record { sound = h .tasks; line = omega (arith, h .line, no-edges es (h .edges)); count = omega (arith, h .taskCount) }
+  closed-held (x ∷ vs) w h =
+      let k : Task = record { vertices = x ∷ vs; edges = es } in
+      let more = length-snoc ts k in
+      record {
+        sound = each-snoc ts k (h .tasks) (open-sound x vs h);
+        line = omega (arith, h .line, h .vertexCount, h .edgeCount);
+        count = omega (arith, h .taskCount);
+      }
+
+-- ---- each kind of frame
+
+task-ok : (n : ℕ) (s : Begun) (v e : ℕ) → Closed n (closed s) → length (closed s) < mostTasks → Ok n (taskFrame s v e)
+task-ok n s v e c h =
+    gate-ok n (within 1 mostVertices v && leb e mostEdges) 3 (on (record { tasks = closed s; vertices = []; edges = []; wantV = v; wantE = e })) (record { low = omega arith; high = omega arith })
+    (λ t.
+    let r = both-left (within 1 mostVertices v) (leb e mostEdges) t in
+    let low = leb→le 1 v (both-left (leb 1 v) (leb v mostVertices) r) in
+    record {
+      tasks = c .sound;
+      taskCount = h;
+      vertexCount = omega (arith, leb→le v mostVertices (both-right (leb 1 v) (leb v mostVertices) r));
+      edgeCount = omega (arith, leb→le e mostEdges (both-right (within 1 mostVertices v) (leb e mostEdges) t));
+      vertices = λ x m. absurd (List·Memᴰ·not-nil m);
+      edges = λ x m. absurd (List·Memᴰ·not-nil m);
+      rising = tt;
+      first = omega arith;
+      line = omega (arith, c .line);
+    })
+
+vertex-ok : (n : ℕ) (s : Begun) (e d : ℕ) → Held n s → 1 ≤ s .wantV → Ok n (vertexFrame s e d)
+vertex-ok n s e d h w =
+    let x : Vertex = record { e = e; d = d } in
+    let more = length-snoc (s .vertices) x in
+    gate-ok n (within 1 largestE e && within 1 largestD d) 3
+    (on (record { tasks = s .tasks; vertices = s .vertices ++ (x ∷ []); edges = s .edges; wantV = s .wantV - 1; wantE = s .wantE })) (record { low = omega arith; high = omega arith })
+    (λ t.
+    let a = both-left (within 1 largestE e) (within 1 largestD d) t in
+    let b = both-right (within 1 largestE e) (within 1 largestD d) t in
+    record {
+      tasks = h .tasks;
+      taskCount = h .taskCount;
+      vertexCount = omega (arith, h .vertexCount);
+      edgeCount = h .edgeCount;
+      vertices = each-snoc (s .vertices) x (h .vertices) (record {
+        someE = leb→le 1 e (both-left (leb 1 e) (leb e largestE) a);
+        mostE = leb→le e largestE (both-right (leb 1 e) (leb e largestE) a);
+        someD = leb→le 1 d (both-left (leb 1 d) (leb d largestD) b);
+        mostD = leb→le d largestD (both-right (leb 1 d) (leb d largestD) b);
+      });
+      edges = λ y m. edge-snoc (s .vertices) x y (h .edges y m);
+      rising = h .rising;
+      first = omega arith;
+      line = omega (arith, h .line);
+    })
+
+edge-ok : (n : ℕ) (s : Begun) (f t p : ℕ) → Held n s → s .wantV ≡ 0 → 1 ≤ s .wantE → Ok n (edgeFrame s f t p)
+edge-ok n s f t p h w m =
+    let x : Edge = record { from = f; to = t; p = p } in
+    let more = length-snoc (s .edges) x in
+    let vs = s .vertices in
+    let end : Step = on (record { tasks = s .tasks; vertices = vs; edges = s .edges ++ (x ∷ []); wantV = 0; wantE = s .wantE - 1 }) in
+    let from = ltb f (length vs) in
+    let to = ltb t (length vs) in
+    let b4 = leb (getD vs f noVertex .d) p in
+    let b5 = afterLast (s .edges) x in
+    gate-ok n (from && to && within 1 largestP p) 3 (gate b4 4 (gate b5 5 end)) (record { low = omega arith; high = omega arith })
+    (λ u. gate-ok n b4 4 (gate b5 5 end) (record { low = omega arith; high = omega arith })
+    (λ v. gate-ok n b5 5 end (record { low = omega arith; high = omega arith })
+    (λ r.
+    let ends = both-left (from && to) (within 1 largestP p) u in
+    let fits = both-right (from && to) (within 1 largestP p) u in
+    record {
+      tasks = h .tasks;
+      taskCount = h .taskCount;
+      vertexCount = omega (arith, h .vertexCount);
+      edgeCount = omega (arith, h .edgeCount);
+      vertices = h .vertices;
+      edges = each-snoc (s .edges) x (h .edges) (record {
+        fromIn = ltb→lt f (length vs) (both-left from to ends);
+        toIn = ltb→lt t (length vs) (both-right from to ends);
+        someP = leb→le 1 p (both-left (leb 1 p) (leb p largestP) fits);
+        mostP = leb→le p largestP (both-right (leb 1 p) (leb p largestP) fits);
+        spaced = leb→le (getD vs f noVertex .d) p v;
+      });
+      rising = rising-snoc (s .edges) x (h .rising) r;
+      first = omega arith;
+      line = omega (arith, h .line);
+    })))
+
+-- ---- a line, and all lines
+
+abbrev Wants : Wanted → ℕ → ℕ → Type 0
+Wants aVertex v e = 1 ≤ v
+Wants anEdge v e = (v ≡ 0) × (1 ≤ e)
+Wants aTask v e = v ≡ 0
+
+wants : (v e : ℕ) → Wants (wantedBy v e) v e
+wants (suc v) e = omega arith
+wants zero (suc e) = (refl, omega arith)
+wants zero zero = refl
+
+not-here : Number 2
+not-here = record { low = omega arith; high = omega arith }
+
+over-ok : (n : ℕ) (ts : Table) → Closed n ts → 0 < length ts → Ok n (over ts)
+over-ok n ts c h = (record { someTask = h; taskCount = c .count; eachTask = c .sound }, omega (arith, c .line, c .count))
+
+framed-ok : (n : ℕ) (s : Begun) (w : Wanted) (f : List ℕ) → Held n s → Wants w (s .wantV) (s .wantE) → Ok n (framed s w f)
+framed-ok n s aVertex f h w = pick-ok n (isFrame 2 5 f) (vertexFrame s (word f 1) (word f 3)) (wrong 2) (λ t. vertex-ok n s (word f 1) (word f 3) h w) not-here
+framed-ok n s anEdge f h w =
+    pick-ok n (isFrame 3 5 f) (edgeFrame s (getD f 1 0) (getD f 2 0) (word f 3)) (wrong 2) (λ t. edge-ok n s (getD f 1 0) (getD f 2 0) (word f 3) h (w .0) (w .1)) not-here
+framed-ok n s aTask f h w =
+    let c = closed-held n (s .tasks) (s .edges) (s .wantV) (s .wantE) (s .vertices) w h in
+    let few = ltb (length (closed s)) mostTasks in
+    let some = ltb 0 (length (closed s)) in
+    pick-ok n (isFrame 1 3 f && few) (taskFrame s (getD f 1 0) (getD f 2 0)) (pick (isFrame 0 1 f && some) (over (closed s)) (wrong 2))
+    (λ t. task-ok n s (getD f 1 0) (getD f 2 0) c (ltb→lt (length (closed s)) mostTasks (both-right (isFrame 1 3 f) few t)))
+    (pick-ok n (isFrame 0 1 f && some) (over (closed s)) (wrong 2) (λ t. over-ok n (closed s) c (ltb→lt 0 (length (closed s)) (both-right (isFrame 0 1 f) some t))) not-here)
+
+step-ok : (n : ℕ) (s : Begun) (o : Option (List ℕ)) → Held n s → Ok n (stepAt s o)
+step-ok n s none h = record { low = omega arith; high = omega arith }
+step-ok n s (some f) h = framed-ok n s (wantedBy (s .wantV) (s .wantE)) f h (wants (s .wantV) (s .wantE))
+
+abbrev Good : Reading → Type 0
+Good (readable ts) = SoundTable ts
+Good (unreadable k n) = TextRefused k n
+
+at-end : (ts : Table) (n : ℕ) (ls : List Line) → SoundTable ts → n ≤ 361 → Good (atEnd ts (suc n) ls)
+at-end ts n [] s h = s
+at-end ts n (l ∷ ls) s h = record { low = omega arith; high = omega arith; first = omega arith; last = omega arith }
+
+-- a refusal at line n, before the end frame
+here : (n k : ℕ) (s : Begun) → Held n s → 1 ≤ k → k ≤ 7 → TextRefused k n
+here n k s h a b = record { low = a; high = b; first = h .first; last = omega (arith, h .line, h .taskCount, h .vertexCount, h .edgeCount) }
+
+from-good : (s : Begun) (n : ℕ) (ls : List Line) → Held n s → Good (readFrom s n ls)
+from-good s n [] h = here n 6 s h (omega arith) (omega arith)
+from-good s n (l ∷ ls) h = go (λ s′ k. from-good s′ (suc n) ls k) (stepAt s (frameOf l)) refl (step-ok n s (frameOf l) h)
+  where
+    go : ((s′ : Begun) → Held (suc n) s′ → Good (readFrom s′ (suc n) ls)) → (r : Step) → stepAt s (frameOf l) ≡ r → Ok n r → Good (readFrom s n (l ∷ ls))
+    go ih (on s′) e k = rw (e, readFrom) (ih s′ k)
+    go ih (over ts) e k = rw (e, readFrom) (at-end ts n ls (k .0) (k .1))
+    go ih (wrong m) e k = rw (e, readFrom) (here n m s h (k .low) (omega (arith, k .high)))
+
+read-good : (text : List ℕ) → Good (read text)
+unfolding read
+read-good text =
+    from-good nothing 1 (linesOf text)
+    (record {
+      tasks = λ x m. absurd (List·Memᴰ·not-nil m);
+      taskCount = omega arith;
+      vertexCount = omega arith;
+      edgeCount = omega arith;
+      vertices = λ x m. absurd (List·Memᴰ·not-nil m);
+      edges = λ x m. absurd (List·Memᴰ·not-nil m);
+      rising = tt;
+      first = omega arith;
+      line = omega arith;
+    })
+
+pub read-sound : (text : List ℕ) (ts : Table) → read text ≡ readable ts → SoundTable ts
+read-sound text ts q = subst Good q (read-good text)
+
+pub read-refused : (text : List ℕ) (k n : ℕ) → read text ≡ unreadable k n → TextRefused k n
+read-refused text k n q = subst Good q (read-good text)

@@ -1,0 +1,46 @@
+-- Lent areas: what a vertex needs of them, and what they hold after its verdict. Assumes nothing.
+use Prim.Native.Nat.{ℕ, _+_, _-_, _*_}
+use mathlib.Core.List.{List, _++_, map}
+use lib.ListN.{length, drop, replicate}
+use Rattle.meaning.specs.Lists.{sum}
+use Rattle.meaning.specs.Table.{Task, Table, higher}
+use Rattle.meaning.specs.Paths.{pathsOf}
+use Rattle.meaning.specs.Verdict.{Verdict, meets, misses, unfinished, refused, cellsOf, deadline}
+
+-- ---- needs
+
+-- the rows of one task: a range for each path, and one for each split
+abbrev pub rowsOf : ℕ → Task → ℕ
+rowsOf d k = 2 * length (pathsOf k d) - 1
+
+-- d times the sum over higher tasks of (2 x paths - 1)
+abbrev pub workNeed : Table → ℕ → ℕ → ℕ
+workNeed ts i v = deadline ts i v * sum (map (rowsOf (deadline ts i v)) (higher ts i))
+
+-- h x (1 + d), h being the number of higher tasks
+abbrev pub witnessNeed : Table → ℕ → ℕ → ℕ
+witnessNeed ts i v = i * (1 + deadline ts i v)
+
+-- ---- afterwards
+
+-- n zeros from the front, the rest unchanged
+abbrev pub zeroed : ℕ → List ℕ → List ℕ
+zeroed n cells = replicate n 0 ++ drop n cells
+
+-- the front holds these, all else unchanged
+abbrev pub written : List ℕ → List ℕ → List ℕ
+written front cells = front ++ drop (length front) cells
+
+-- after any of the three verdicts the needed cells are zero; no refusal changes a lent area
+abbrev pub workAfter : Verdict → ℕ → List ℕ → List ℕ
+workAfter (meets c) need cells = zeroed need cells
+workAfter (misses c ws) need cells = zeroed need cells
+workAfter (unfinished b) need cells = zeroed need cells
+workAfter (refused k place) need cells = cells
+
+-- on a miss its front holds, per higher task in order, the path's length and vertices
+abbrev pub witnessAfter : Verdict → List ℕ → List ℕ
+witnessAfter (meets c) cells = cells
+witnessAfter (misses c ws) cells = written (cellsOf ws) cells
+witnessAfter (unfinished b) cells = cells
+witnessAfter (refused k place) cells = cells

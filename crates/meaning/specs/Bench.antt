@@ -1,0 +1,123 @@
+-- The bench examples R1 to R8, as one table under one claim. Assumes nothing.
+use Prim.Native.Nat.{ℕ}
+use Prim.Native.Char.{code}
+use Prim.Native.String.{String, [] as []ˢ, _∷_ as _∷ˢ_}
+use mathlib.Core.Bool.{Bool, true, false, _&&_}
+use mathlib.Core.List.{List, [], _∷_, _++_}
+use lib.Dec.{T, eqb}
+use Rattle.meaning.specs.Lists.{all}
+use Rattle.meaning.specs.Bounds.{deskBudget, deskWork, deskWitness}
+use Rattle.meaning.specs.Table.{Vertex, Edge, Task, Table}
+use Rattle.meaning.specs.Paths.{completePaths}
+use Rattle.meaning.specs.Verdict.{Verdict, meets, misses, unfinished, refused, numbers, cellsOf}
+use Rattle.meaning.specs.Judge.{judged}
+use Rattle.meaning.specs.Desk.{output}
+
+-- ---- what the definitions give, beside what the document says
+
+pub record Example : Type 0 where
+  pub got : List ℕ
+  pub said : List ℕ
+
+infix 20 _gives_
+abbrev pub _gives_ : List ℕ → List ℕ → Example
+g gives s = record { got = g; said = s }
+
+abbrev pub same : List ℕ → List ℕ → Bool
+same [] [] = true
+same [] (y ∷ ys) = false
+same (x ∷ xs) [] = false
+same (x ∷ xs) (y ∷ ys) = eqb x y && same xs ys
+
+abbrev pub right : Example → Bool
+right x = same (x .got) (x .said)
+
+-- ---- tables
+
+abbrev pub vertex : ℕ → ℕ → Vertex
+vertex e d = record { e = e; d = d }
+
+abbrev pub edge : ℕ → ℕ → ℕ → Edge
+edge from to p = record { from = from; to = to; p = p }
+
+abbrev pub task : List Vertex → List Edge → Task
+task vs es = record { vertices = vs; edges = es }
+
+abbrev pub selfEdge : ℕ → ℕ → ℕ → Task
+selfEdge e d p = task (vertex e d ∷ []) (edge 0 0 p ∷ [])
+
+abbrev pub lone : ℕ → ℕ → Task
+lone e d = task (vertex e d ∷ []) []
+
+-- R1 with the last e = 1
+abbrev pub r2 : Table
+r2 = selfEdge 2 5 5 ∷ selfEdge 2 7 7 ∷ selfEdge 1 6 7 ∷ []
+
+-- above, two vertices e 1 and e 3, no edges; judged e 2
+abbrev pub r5 : ℕ → Table
+r5 d = task (vertex 1 5 ∷ vertex 3 5 ∷ []) [] ∷ lone 2 d ∷ []
+
+abbrev pub r7above : Task
+r7above = task (vertex 3 10 ∷ vertex 1 2 ∷ vertex 4 10 ∷ []) (edge 1 2 2 ∷ [])
+
+abbrev pub r7 : Table
+r7 = r7above ∷ lone 1 5 ∷ []
+
+-- ---- what is compared
+
+-- a quoted text's bytes
+abbrev pub bytes : String → List ℕ
+bytes []ˢ = []
+bytes (c ∷ˢ s) = code c ∷ bytes s
+
+abbrev pub r1In : String
+r1In = "010101\n0200020005\n0300000005\n010101\n0200020007\n0300000007\n010101\n0200020006\n0300000007\n00\n"
+
+abbrev pub r1Out : String
+r1Out = "1000000000000001\n1001000000000001\n1002000100000001\n1100020000\n11010100\n1f02010000\n"
+
+-- each path with its length before it
+abbrev pub pathList : Task → ℕ → List ℕ
+pathList k horizon = cellsOf (completePaths k horizon)
+
+abbrev pub cells : Verdict → List ℕ
+cells (meets c) = []
+cells (misses c ws) = cellsOf ws
+cells (unfinished b) = []
+cells (refused k place) = []
+
+-- the first vertex of task i with budget b and the desk's areas: the verdict in numbers, then a miss's cells
+abbrev pub shown : Verdict → List ℕ
+shown x = numbers x ++ cells x
+
+abbrev pub judgedWith : ℕ → Table → ℕ → List ℕ
+judgedWith b ts i = shown (judged ts i 0 b deskWork deskWitness)
+
+abbrev pub examples : List Example
+examples =
+    -- R1
+    (output (bytes r1In) gives (bytes r1Out))
+    -- R2: meets, C = 1
+    ∷ (judgedWith deskBudget r2 2 gives (0 ∷ 1 ∷ []))
+    -- R3: horizon 5 has path (0), horizon 6 has (0,0)
+    ∷ (pathList (selfEdge 2 5 5) 5 gives (1 ∷ 0 ∷ []))
+    ∷ (pathList (selfEdge 2 5 5) 6 gives (2 ∷ 0 ∷ 0 ∷ []))
+    -- R4: misses, C = 1, no witness cells
+    ∷ (judgedWith deskBudget (lone 3 2 ∷ []) 0 gives (1 ∷ 1 ∷ 0 ∷ []))
+    -- R5: meets, C = 1
+    ∷ (judgedWith deskBudget (r5 5) 1 gives (0 ∷ 1 ∷ []))
+    -- R6: misses, C = 3, path (1)
+    ∷ (judgedWith deskBudget (r5 4) 1 gives (1 ∷ 3 ∷ 2 ∷ 1 ∷ 1 ∷ []))
+    -- R7: paths (0), (1,2), (2); meets, C = 5
+    ∷ (pathList r7above 5 gives (1 ∷ 0 ∷ 2 ∷ 1 ∷ 2 ∷ 1 ∷ 2 ∷ []))
+    ∷ (judgedWith deskBudget r7 1 gives (0 ∷ 5 ∷ []))
+    -- R8: budgets 0, 4, 5, 6
+    ∷ (judgedWith 0 r7 1 gives (2 ∷ 0 ∷ []))
+    ∷ (judgedWith 4 r7 1 gives (2 ∷ 4 ∷ []))
+    ∷ (judgedWith 5 r7 1 gives (0 ∷ 5 ∷ []))
+    ∷ (judgedWith 6 r7 1 gives (0 ∷ 5 ∷ []))
+    ∷ []
+
+-- the claim
+abbrev pub Right : Type 0
+Right = T (all right examples)

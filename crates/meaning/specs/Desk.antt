@@ -1,0 +1,82 @@
+-- The desk program: from the bytes that it reads to the bytes that it writes. Assumes nothing.
+use Prim.Native.Nat.{ℕ, suc, _+_, _/_, _%_}
+use mathlib.Core.Bool.{true, false}
+use mathlib.Core.List.{List, [], _∷_, _++_, map}
+use lib.ListN.{length}
+use lib.Dec.{ltb}
+use Rattle.meaning.specs.Lists.{pick, gather}
+use Rattle.meaning.specs.Bounds.{longestInput, deskWork, deskWitness, deskBudget}
+use Rattle.meaning.specs.Table.{Table}
+use Rattle.meaning.specs.Text.{Reading, readable, unreadable, read, lineFeed}
+use Rattle.meaning.specs.Paths.{Path}
+use Rattle.meaning.specs.Verdict.{Verdict, meets, misses, unfinished, refused}
+use Rattle.meaning.specs.Judge.{judged}
+use Rattle.meaning.specs.Whole.{Place, places, Counts, countsOf}
+
+-- ---- numbers and lines
+
+-- in two bytes and in four, the high byte first
+abbrev pub two : ℕ → List ℕ
+two n = n / 256 % 256 ∷ n % 256 ∷ []
+
+abbrev pub four : ℕ → List ℕ
+four n = two (n / 65536) ++ two n
+
+-- the digit 0-9a-f of a number below 16
+abbrev pub digit : ℕ → ℕ
+digit n = pick (ltb n 10) (48 + n) (87 + n)
+
+-- a frame a line
+abbrev pub line : List ℕ → List ℕ
+line f = gather (λ (b : ℕ). digit (b / 16) ∷ digit (b % 16) ∷ []) f ++ (lineFeed ∷ [])
+
+-- ---- frames
+
+-- 10, task, vertex, verdict, 4 bytes count (or refusal number)
+abbrev pub verdictFrame : Place → ℕ → ℕ → List ℕ
+verdictFrame q kind n = 16 ∷ q .task ∷ q .vertex ∷ kind ∷ four n
+
+-- 11, task, length, vertices
+abbrev pub pathFrame : ℕ → Path → List ℕ
+pathFrame i w = 17 ∷ i ∷ length w ∷ w
+
+-- one a higher task, from task i on
+abbrev pub pathFrames : ℕ → List Path → List (List ℕ)
+pathFrames i [] = []
+pathFrames i (w ∷ ws) = pathFrame i w ∷ pathFrames (suc i) ws
+
+abbrev pub vertexFrames : Place → Verdict → List (List ℕ)
+vertexFrames q (meets c) = verdictFrame q 0 c ∷ []
+vertexFrames q (misses c ws) = verdictFrame q 1 c ∷ pathFrames 0 ws
+vertexFrames q (unfinished b) = verdictFrame q 2 b ∷ []
+vertexFrames q (refused k place) = verdictFrame q 3 k ∷ []
+
+-- 1f and the four counts
+abbrev pub countsFrame : Counts → List ℕ
+countsFrame n = 31 ∷ n .meeting ∷ n .missing ∷ n .unfinishing ∷ n .refusing ∷ []
+
+-- 1e, number, line in 2 bytes
+abbrev pub refusalFrame : ℕ → ℕ → List ℕ
+refusalFrame k n = 30 ∷ k ∷ two n
+
+-- ---- the output
+
+abbrev pub deskVerdict : Table → Place → Verdict
+deskVerdict ts q = judged ts (q .task) (q .vertex) deskBudget deskWork deskWitness
+
+abbrev pub tableFrames : Table → List (List ℕ)
+tableFrames ts =
+    gather (λ (q : Place). vertexFrames q (deskVerdict ts q)) (places ts)
+    ++ (countsFrame (countsOf (map (deskVerdict ts) (places ts))) ∷ [])
+
+abbrev pub readingFrames : Reading → List (List ℕ)
+readingFrames (readable ts) = tableFrames ts
+readingFrames (unreadable k n) = refusalFrame k n ∷ []
+
+-- refusal 12 is checked before all
+abbrev pub frames : List ℕ → List (List ℕ)
+frames text = elim (ltb longestInput (length text)) [ true ↦ refusalFrame 12 0 ∷ [] | false ↦ readingFrames (read text) ]
+
+unfoldable pub output : List ℕ → List ℕ
+unfolding judged read
+output text = gather line (frames text)

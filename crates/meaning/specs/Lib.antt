@@ -1,0 +1,15 @@
+pub mod Lists
+pub mod Bounds
+pub mod Table
+pub mod Text
+pub mod Paths
+pub mod Groups
+pub mod Walk
+pub mod Verdict
+pub mod Areas
+pub mod Judge
+pub mod Whole
+pub mod Desk
+pub mod Sound
+pub mod Demands
+pub mod Bench

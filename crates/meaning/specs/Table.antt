@@ -1,0 +1,40 @@
+-- What the tool judges: a table of tasks in priority order, task 0 highest; times in ticks. Assumes nothing.
+use Prim.Native.Nat.{ℕ}
+use mathlib.Core.List.{List, []}
+use lib.ListN.{getD, take}
+
+-- a job type: its execution time e and its deadline d
+pub record Vertex : Type 0 where
+  pub e : ℕ
+  pub d : ℕ
+
+-- from a vertex to a vertex, with the separation p: the least time from a release of the one to the next release, of the other
+pub record Edge : Type 0 where
+  pub from : ℕ
+  pub to : ℕ
+  pub p : ℕ
+
+pub record Task : Type 0 where
+  pub vertices : List Vertex
+  pub edges : List Edge
+
+abbrev pub Table : Type 0
+Table = List Task
+
+-- ---- by number
+
+abbrev pub noVertex : Vertex
+noVertex = record { e = 0; d = 0 }
+
+abbrev pub noTask : Task
+noTask = record { vertices = []; edges = [] }
+
+abbrev pub vertexAt : Task → ℕ → Vertex
+vertexAt k v = getD (k .vertices) v noVertex
+
+abbrev pub taskAt : Table → ℕ → Task
+taskAt ts i = getD ts i noTask
+
+-- the tasks of higher priority than task i
+abbrev pub higher : Table → ℕ → List Task
+higher ts i = take i ts

@@ -1,0 +1,163 @@
+-- Frames on paper, and the refusal sheet's rows 1 to 7: from the bytes of a text to its table, or to the number and the line of its refusal.
+-- Assumes nothing.
+use Prim.Native.Nat.{ℕ, zero, suc, _+_, _-_, _*_}
+use mathlib.Core.Bool.{Bool, true, false, _&&_, _||_}
+use mathlib.Core.Option.{Option, none, some}
+use mathlib.Core.List.{List, [], _∷_, _++_}
+use lib.ListN.{length, getD}
+use lib.Dec.{leb, ltb, eqb}
+use Rattle.meaning.specs.Lists.{pick}
+use Rattle.meaning.specs.Bounds.{mostTasks, mostVertices, mostEdges, largestE, largestD, largestP}
+use Rattle.meaning.specs.Table.{Vertex, Edge, Task, Table, noVertex}
+
+-- ---- lines
+
+-- the bytes before the line feed, and whether there is one; a last stretch without a line feed is a line
+pub record Line : Type 0 where
+  pub bytes : List ℕ
+  pub fed : Bool
+
+-- one more byte at the front of the first line
+abbrev pub intoFirst : ℕ → List Line → List Line
+intoFirst b [] = record { bytes = b ∷ []; fed = false } ∷ []
+intoFirst b (l ∷ ls) = record { bytes = b ∷ l .bytes; fed = l .fed } ∷ ls
+
+abbrev pub lineFeed : ℕ
+lineFeed = 10
+
+abbrev pub linesOf : List ℕ → List Line
+linesOf [] = []
+linesOf (b ∷ bs) = pick (eqb b lineFeed) (record { bytes = []; fed = true } ∷ linesOf bs) (intoFirst b (linesOf bs))
+
+-- ---- the frame of a line: an even number of digits 0-9a-f, at least two, then a line feed
+
+abbrev pub digitOf : ℕ → Option ℕ
+digitOf b =
+    pick (leb 48 b && leb b 57) (some (b - 48))
+    (pick (leb 97 b && leb b 102) (some (b - 87)) none)
+
+abbrev pub byteWith : Option ℕ → Option ℕ → Option (List ℕ) → Option (List ℕ)
+byteWith (some h) (some l) (some bs) = some ((h * 16 + l) ∷ bs)
+byteWith (some h) (some l) none = none
+byteWith (some h) none r = none
+byteWith none l r = none
+
+abbrev pub hexBytes : List ℕ → Option (List ℕ)
+hexBytes [] = some []
+hexBytes (h ∷ []) = none
+hexBytes (h ∷ l ∷ ds) = byteWith (digitOf h) (digitOf l) (hexBytes ds)
+
+abbrev pub nonEmpty : Option (List ℕ) → Option (List ℕ)
+nonEmpty none = none
+nonEmpty (some []) = none
+nonEmpty (some (b ∷ bs)) = some (b ∷ bs)
+
+abbrev pub frameOf : Line → Option (List ℕ)
+frameOf l = pick (l .fed) (nonEmpty (hexBytes (l .bytes))) none
+
+-- a frame of kind k that is n bytes long
+abbrev pub isFrame : ℕ → ℕ → List ℕ → Bool
+isFrame k n f = eqb (getD f 0 0) k && eqb (length f) n
+
+-- the number in the two bytes at i, the high byte first
+abbrev pub word : List ℕ → ℕ → ℕ
+word f i = getD f i 0 * 256 + getD f (suc i) 0
+
+-- ---- what a frame does to what was read before it
+
+-- What was read before a line: whole tasks, then the task that is being read, and how many vertices and edges it still wants.
+pub record Begun : Type 0 where
+  pub tasks : List Task
+  pub vertices : List Vertex
+  pub edges : List Edge
+  pub wantV : ℕ
+  pub wantE : ℕ
+
+abbrev pub nothing : Begun
+nothing = record { tasks = []; vertices = []; edges = []; wantV = 0; wantE = 0 }
+
+-- all tasks, with the one that was just read to its end
+abbrev pub closed : Begun → List Task
+closed s = elim (s .vertices) [ [] ↦ s .tasks | v ∷ vs ↦ s .tasks ++ (record { vertices = s .vertices; edges = s .edges } ∷ []) ]
+
+-- a line is read and the text goes on, or it was the end frame, or it is refused with a number
+pub data Step : Type 0 where
+  on : Begun → Step
+  over : Table → Step
+  wrong : ℕ → Step
+
+-- refused with number n unless the test holds
+abbrev pub gate : Bool → ℕ → Step → Step
+gate true n s = s
+gate false n s = wrong n
+
+abbrev pub within : ℕ → ℕ → ℕ → Bool
+within low high n = leb low n && leb n high
+
+abbrev pub taskFrame : Begun → ℕ → ℕ → Step
+taskFrame s nv ne =
+    gate (within 1 mostVertices nv && leb ne mostEdges) 3
+    (on (record { tasks = closed s; vertices = []; edges = []; wantV = nv; wantE = ne }))
+
+abbrev pub vertexFrame : Begun → ℕ → ℕ → Step
+vertexFrame s e d =
+    gate (within 1 largestE e && within 1 largestD d) 3
+    (on (record { tasks = s .tasks; vertices = s .vertices ++ (record { e = e; d = d } ∷ []); edges = s .edges; wantV = s .wantV - 1; wantE = s .wantE }))
+
+-- strictly rising order of (from, to): an edge stands after the one before it in its task
+abbrev pub afterLast : List Edge → Edge → Bool
+afterLast [] x = true
+afterLast (y ∷ []) x = ltb (y .from) (x .from) || (eqb (y .from) (x .from) && ltb (y .to) (x .to))
+afterLast (y ∷ z ∷ zs) x = afterLast (z ∷ zs) x
+
+abbrev pub edgeFrame : Begun → ℕ → ℕ → ℕ → Step
+edgeFrame s from to p =
+    gate (ltb from (length (s .vertices)) && ltb to (length (s .vertices)) && within 1 largestP p) 3
+    (gate (leb (getD (s .vertices) from noVertex .d) p) 4
+    (gate (afterLast (s .edges) (record { from = from; to = to; p = p })) 5
+    (on (record { tasks = s .tasks; vertices = s .vertices; edges = s .edges ++ (record { from = from; to = to; p = p } ∷ []); wantV = 0; wantE = s .wantE - 1 }))))
+
+-- a task frame is followed by its vertices, then its edges; then another task or the end
+pub data Wanted : Type 0 where
+  aVertex anEdge aTask : Wanted
+
+abbrev pub wantedBy : ℕ → ℕ → Wanted
+wantedBy (suc v) e = aVertex
+wantedBy zero (suc e) = anEdge
+wantedBy zero zero = aTask
+
+abbrev pub framed : Begun → Wanted → List ℕ → Step
+framed s aVertex f = pick (isFrame 2 5 f) (vertexFrame s (word f 1) (word f 3)) (wrong 2)
+framed s anEdge f = pick (isFrame 3 5 f) (edgeFrame s (getD f 1 0) (getD f 2 0) (word f 3)) (wrong 2)
+framed s aTask f =
+    pick (isFrame 1 3 f && ltb (length (closed s)) mostTasks) (taskFrame s (getD f 1 0) (getD f 2 0))
+    (pick (isFrame 0 1 f && ltb 0 (length (closed s))) (over (closed s)) (wrong 2))
+
+abbrev pub stepAt : Begun → Option (List ℕ) → Step
+stepAt s none = wrong 1
+stepAt s (some f) = framed s (wantedBy (s .wantV) (s .wantE)) f
+
+-- ---- the whole text: the first faulty line decides
+
+pub data Reading : Type 0 where
+  readable : Table → Reading
+  unreadable : ℕ → ℕ → Reading
+
+-- after the end frame nothing is read: any byte there is 7
+abbrev pub atEnd : Table → ℕ → List Line → Reading
+atEnd ts n [] = readable ts
+atEnd ts n (l ∷ ls) = unreadable 7 n
+
+-- the lines from line n on, after what was read before
+abbrev pub readFrom : Begun → ℕ → List Line → Reading
+readFrom s n [] = unreadable 6 n
+readFrom s n (l ∷ ls) = elim (stepAt s (frameOf l)) [ on s′ ↦ readFrom s′ (suc n) ls | over ts ↦ atEnd ts (suc n) ls | wrong k ↦ unreadable k n ]
+
+unfoldable pub read : List ℕ → Reading
+read text = readFrom nothing 1 (linesOf text)
+
+-- ---- the C host's text check: number and line packed in one number, both 0 for a readable text
+
+abbrev pub packed : Reading → ℕ
+packed (readable ts) = 0
+packed (unreadable k n) = k * 65536 + n

@@ -1,0 +1,99 @@
+-- Judging a whole table. Assumes nothing.
+use Prim.Native.Nat.{ℕ, suc}
+use mathlib.Core.Bool.{Bool, true, false}
+use mathlib.Core.List.{List, [], _∷_, _++_, map}
+use lib.ListN.{length}
+use Rattle.meaning.specs.Lists.{those, below, largest}
+use Rattle.meaning.specs.Table.{Task, Table}
+use Rattle.meaning.specs.Text.{Reading, readable, unreadable}
+use Rattle.meaning.specs.Paths.{pathsOf}
+use Rattle.meaning.specs.Verdict.{Verdict, meets, misses, unfinished, refused, walked, walkedAt}
+use Rattle.meaning.specs.Areas.{workNeed, zeroed}
+use Rattle.meaning.specs.Judge.{row9, row10, firstRow, unlessRefused}
+
+-- ---- the vertices of a table, in rising order of task and then vertex
+
+pub record Place : Type 0 where
+  pub task : ℕ
+  pub vertex : ℕ
+
+abbrev pub placesFrom : ℕ → List Task → List Place
+placesFrom i [] = []
+placesFrom i (k ∷ ks) = map (λ (v : ℕ). record { task = i; vertex = v }) (below (length (k .vertices))) ++ placesFrom (suc i) ks
+
+abbrev pub places : Table → List Place
+places ts = placesFrom 0 ts
+
+-- ---- one budget, given afresh to each vertex; no witness area, so of the sheet only 9 and 10
+
+unfoldable pub verdictAt : Table → ℕ → ℕ → Place → Verdict
+unfolding pathsOf walked
+verdictAt ts b work q = unlessRefused (firstRow (row9 ts (q .task) (q .vertex) ∷ row10 ts (q .task) (q .vertex) work ∷ [])) (walkedAt ts (q .task) (q .vertex) b)
+
+abbrev pub verdicts : Table → ℕ → ℕ → List Verdict
+verdicts ts b work = map (verdictAt ts b work) (places ts)
+
+-- ---- how many meet, miss, are unfinished and are refused
+
+abbrev pub isMeets : Verdict → Bool
+isMeets (meets c) = true
+isMeets (misses c ws) = false
+isMeets (unfinished b) = false
+isMeets (refused k place) = false
+
+abbrev pub isMisses : Verdict → Bool
+isMisses (meets c) = false
+isMisses (misses c ws) = true
+isMisses (unfinished b) = false
+isMisses (refused k place) = false
+
+abbrev pub isUnfinished : Verdict → Bool
+isUnfinished (meets c) = false
+isUnfinished (misses c ws) = false
+isUnfinished (unfinished b) = true
+isUnfinished (refused k place) = false
+
+abbrev pub isRefused : Verdict → Bool
+isRefused (meets c) = false
+isRefused (misses c ws) = false
+isRefused (unfinished b) = false
+isRefused (refused k place) = true
+
+pub record Counts : Type 0 where
+  pub meeting : ℕ
+  pub missing : ℕ
+  pub unfinishing : ℕ
+  pub refusing : ℕ
+
+abbrev pub countsOf : List Verdict → Counts
+countsOf xs =
+    record {
+      meeting = length (those isMeets xs);
+      missing = length (those isMisses xs);
+      unfinishing = length (those isUnfinished xs);
+      refusing = length (those isRefused xs);
+    }
+
+-- ---- the answer for a text, and the work area afterwards
+
+pub data TableAnswer : Type 0 where
+  counted : Counts → TableAnswer
+  uncounted : ℕ → ℕ → TableAnswer
+
+abbrev pub tableAnswer : Reading → ℕ → ℕ → TableAnswer
+tableAnswer (readable ts) b work = counted (countsOf (verdicts ts b work))
+tableAnswer (unreadable k n) b work = uncounted k n
+
+abbrev pub needUnless : Verdict → ℕ → ℕ
+needUnless (meets c) need = need
+needUnless (misses c ws) need = need
+needUnless (unfinished b) need = need
+needUnless (refused k place) need = 0
+
+-- the largest need among vertices not refused
+abbrev pub tableNeed : Table → ℕ → ℕ → ℕ
+tableNeed ts b work = largest (map (λ (q : Place). needUnless (verdictAt ts b work q) (workNeed ts (q .task) (q .vertex))) (places ts))
+
+abbrev pub tableWorkAfter : Reading → ℕ → List ℕ → List ℕ
+tableWorkAfter (readable ts) b cells = zeroed (tableNeed ts b (length cells)) cells
+tableWorkAfter (unreadable k n) b cells = cells
