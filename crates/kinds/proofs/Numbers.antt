@@ -1,0 +1,47 @@
+-- The numbers settle the case: no two refusals and no two verdicts have the same. Assumes nothing.
+use mathlib.Core.Path.{_≡_, refl, sym, ap, _∙_}
+use Prim.Native.Nat.{ℕ}
+use mathlib.Core.List.{List, [], _∷_}
+use Rattle.kinds.specs.declared.Refusal.{Refusal}
+use Rattle.kinds.specs.declared.Refusal.the-variants.{BadLine, WrongFrame, OutOfBounds, DeadlineOverSeparation, EdgeNotAfter, NoEnd, BytesAfterEnd, NoSuchVertex, TooManyPaths, WorkTooShort, WitnessTooShort, InputTooLong}
+use Rattle.kinds.specs.declared.Verdict.{Verdict}
+use Rattle.kinds.specs.declared.Verdict.the-variants.{Meets, Misses, Unfinished, Refused}
+use Rattle.kinds.specs.Numbers.{refusalNumber, verdictNumbers}
+use lib.ListN.{getD}
+
+-- the refusal with number n, none beyond the sheet
+abbrev pub refusalOf : ℕ → Refusal
+refusalOf n =
+    getD
+    (BadLine ∷ BadLine ∷ WrongFrame ∷ OutOfBounds ∷ DeadlineOverSeparation ∷ EdgeNotAfter ∷ NoEnd ∷ BytesAfterEnd ∷ NoSuchVertex ∷ TooManyPaths ∷ WorkTooShort ∷ WitnessTooShort ∷ InputTooLong ∷ [])
+    n BadLine
+
+pub refusal-of-number : (r : Refusal) → refusalOf (refusalNumber r) ≡ r
+refusal-of-number BadLine = refl
+refusal-of-number WrongFrame = refl
+refusal-of-number OutOfBounds = refl
+refusal-of-number DeadlineOverSeparation = refl
+refusal-of-number EdgeNotAfter = refl
+refusal-of-number NoEnd = refl
+refusal-of-number BytesAfterEnd = refl
+refusal-of-number NoSuchVertex = refl
+refusal-of-number TooManyPaths = refl
+refusal-of-number WorkTooShort = refl
+refusal-of-number WitnessTooShort = refl
+refusal-of-number InputTooLong = refl
+
+pub same-refusal : (r s : Refusal) → refusalNumber r ≡ refusalNumber s → r ≡ s
+same-refusal r s q = sym (refusal-of-number r) ∙ ap refusalOf q ∙ refusal-of-number s
+
+-- a verdict from its numbers
+abbrev verdictOf : List ℕ → Verdict
+verdictOf ns = getD (Meets (getD ns 1 0) ∷ Misses (getD ns 1 0) (getD ns 2 0) ∷ Unfinished (getD ns 1 0) ∷ Refused (record { refusal = refusalOf (getD ns 1 0); place = getD ns 2 0 }) ∷ []) (getD ns 0 0) (Meets 0)
+
+verdict-of-numbers : (v : Verdict) → verdictOf (verdictNumbers v) ≡ v
+verdict-of-numbers (Meets c) = refl
+verdict-of-numbers (Misses c n) = refl
+verdict-of-numbers (Unfinished b) = refl
+verdict-of-numbers (Refused at) = ap (λ (r : Refusal). Refused (record { refusal = r; place = at .place })) (refusal-of-number (at .refusal))
+
+pub same-verdict : (v w : Verdict) → verdictNumbers v ≡ verdictNumbers w → v ≡ w
+same-verdict v w q = sym (verdict-of-numbers v) ∙ ap verdictOf q ∙ verdict-of-numbers w

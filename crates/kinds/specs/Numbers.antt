@@ -1,0 +1,29 @@
+-- The document's number and values of each case. Assumes nothing.
+use Prim.Native.Nat.{ℕ}
+use mathlib.Core.List.{List, [], _∷_}
+use Rattle.kinds.specs.declared.Refusal.{Refusal}
+use Rattle.kinds.specs.declared.Refusal.the-variants.{BadLine, WrongFrame, OutOfBounds, DeadlineOverSeparation, EdgeNotAfter, NoEnd, BytesAfterEnd, NoSuchVertex, TooManyPaths, WorkTooShort, WitnessTooShort, InputTooLong}
+use Rattle.kinds.specs.declared.Verdict.{Verdict}
+use Rattle.kinds.specs.declared.Verdict.the-variants.{Meets, Misses, Unfinished, Refused}
+
+-- the refusal sheet
+abbrev pub refusalNumber : Refusal → ℕ
+refusalNumber BadLine = 1
+refusalNumber WrongFrame = 2
+refusalNumber OutOfBounds = 3
+refusalNumber DeadlineOverSeparation = 4
+refusalNumber EdgeNotAfter = 5
+refusalNumber NoEnd = 6
+refusalNumber BytesAfterEnd = 7
+refusalNumber NoSuchVertex = 8
+refusalNumber TooManyPaths = 9
+refusalNumber WorkTooShort = 10
+refusalNumber WitnessTooShort = 11
+refusalNumber InputTooLong = 12
+
+-- the desk's 0 to 3, then the values: the count; the count and the cells written; the budget; the refusal's number and its place
+abbrev pub verdictNumbers : Verdict → List ℕ
+verdictNumbers (Meets count) = 0 ∷ count ∷ []
+verdictNumbers (Misses count cells) = 1 ∷ count ∷ cells ∷ []
+verdictNumbers (Unfinished budget) = 2 ∷ budget ∷ []
+verdictNumbers (Refused at) = 3 ∷ refusalNumber (at .refusal) ∷ at .place ∷ []

@@ -1,0 +1,101 @@
+// "Tick counts, task numbers and vertex numbers are kept as kinds that can't be mixed." Each has the width of its frames.
+//
+// "A refusal is carried inside the verdict as a number and its place": the verdict's refused case holds the refusal and its line, task or cell count.
+ghost use mathlib.Core.Path.{_≡_};
+ghost use lib.ListN.{getD};
+ghost use Rattle.kinds.specs.Numbers.{refusalNumber, verdictNumbers};
+
+pub struct Ticks(pub u16);
+
+pub struct TaskNumber(pub u8);
+
+pub struct VertexNumber(pub u8);
+
+// The rows of the refusal sheet, in its order.
+pub enum Refusal {
+    BadLine,
+    WrongFrame,
+    OutOfBounds,
+    DeadlineOverSeparation,
+    EdgeNotAfter,
+    NoEnd,
+    BytesAfterEnd,
+    NoSuchVertex,
+    TooManyPaths,
+    WorkTooShort,
+    WitnessTooShort,
+    InputTooLong,
+}
+
+// The refusal, and what is returned with it: a line, a task, the cells needed, or zero.
+pub struct RefusedAt {
+    pub refusal: Refusal,
+    pub place: u32,
+}
+
+// Meets with C; misses with C and the cells written; unfinished with the budget.
+pub enum Verdict {
+    Meets(u32),
+    Misses(u32, u32),
+    Unfinished(u32),
+    Refused(RefusedAt),
+}
+
+// The refusal sheet's number.
+pub fn refusal_number(r: Refusal) -> u8
+    ensures { λ n. ⌜ n ≡ refusalNumber r ⌝ }
+{
+    match r {
+        Refusal::BadLine => 1,
+        Refusal::WrongFrame => 2,
+        Refusal::OutOfBounds => 3,
+        Refusal::DeadlineOverSeparation => 4,
+        Refusal::EdgeNotAfter => 5,
+        Refusal::NoEnd => 6,
+        Refusal::BytesAfterEnd => 7,
+        Refusal::NoSuchVertex => 8,
+        Refusal::TooManyPaths => 9,
+        Refusal::WorkTooShort => 10,
+        Refusal::WitnessTooShort => 11,
+        Refusal::InputTooLong => 12,
+    }
+}
+
+// The desk's number of a verdict: 0 meets, 1 misses, 2 unfinished, 3 refused.
+pub fn verdict_number(v: Verdict) -> u8
+    ensures { λ n. ⌜ n ≡ getD (verdictNumbers v) 0 0 ⌝ }
+{
+    match v {
+        Verdict::Meets(_) => 0,
+        Verdict::Misses(_, _) => 1,
+        Verdict::Unfinished(_) => 2,
+        Verdict::Refused(_) => 3,
+    }
+}
+
+// The count, the budget, or the refusal's number.
+pub fn verdict_value(v: Verdict) -> u32
+    ensures { λ n. ⌜ n ≡ getD (verdictNumbers v) 1 0 ⌝ }
+{
+    match v {
+        Verdict::Meets(count) => count,
+        Verdict::Misses(count, _) => count,
+        Verdict::Unfinished(budget) => budget,
+        Verdict::Refused(at) => {
+            let refusal = at.refusal;
+            refusal_number(refusal) as u32
+        }
+    }
+}
+
+// The cells written by a miss, the place of a refusal, else zero.
+pub fn verdict_place(v: Verdict) -> u32
+    ensures { λ n. ⌜ n ≡ getD (verdictNumbers v) 2 0 ⌝ }
+{
+    match v {
+        Verdict::Meets(_) => 0,
+        Verdict::Misses(_, cells) => cells,
+        Verdict::Unfinished(_) => 0,
+        Verdict::Refused(at) => at.place,
+    }
+}

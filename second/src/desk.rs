@@ -1,0 +1,107 @@
+//! The desk program's output.
+
+use crate::bounds::{BUDGET, INPUT_BYTES, WITNESS_CELLS, WORK_CELLS};
+use crate::bounds::{COUNTS_FRAME, PATH_FRAME, REFUSED_FRAME, VERDICT_FRAME};
+use crate::bounds::{MEETS, MISSES, REFUSED, UNFINISHED};
+use crate::judge::{judge_vertex, Counts, Verdict};
+use crate::refusal::{Refusal, Row};
+use crate::table::{Table, TaskNo, VertexNo};
+use crate::text;
+
+/// The desk program's whole output for an input: lines of hexadecimal, one frame a line.
+pub fn output(input: &[u8]) -> String {
+    let mut lines = String::new();
+    match read(input) {
+        Ok(table) => write_table(&mut lines, &table),
+        Err(refusal) => write_refusal(&mut lines, &refusal),
+    }
+    lines
+}
+
+/// Reads an input: refusal 12 before all, then as a text.
+fn read(input: &[u8]) -> Result<Table, Refusal> {
+    if input.len() > INPUT_BYTES {
+        return Err(Refusal::at(Row::LongInput, 0));
+    }
+    text::read(input)
+}
+
+/// Writes the frame of a refused text or input.
+fn write_refusal(lines: &mut String, refusal: &Refusal) {
+    // The bounds leave a few hundred good lines before a faulty one, so 2 bytes hold its number.
+    let [high, low] = (refusal.place as u16).to_be_bytes();
+    write_frame(lines, &[REFUSED_FRAME, refusal.number(), high, low]);
+}
+
+/// Writes the frames of every vertex, and last the four counts.
+fn write_table(lines: &mut String, table: &Table) {
+    let mut work = [0; WORK_CELLS];
+    let mut witness = [0; WITNESS_CELLS];
+    let mut counts = Counts::default();
+    for (task, vertex) in table.numbers() {
+        let verdict = judge_vertex(table, task, vertex, BUDGET, &mut work, &mut witness);
+        counts.add(&verdict);
+        write_verdict(lines, task, vertex, &verdict);
+        if let Verdict::Misses { .. } = verdict {
+            write_paths(lines, task, &witness);
+        }
+    }
+    let Counts {
+        meets,
+        misses,
+        unfinished,
+        refused,
+    } = counts;
+    write_bytes(lines, &[COUNTS_FRAME]);
+    write_frame(lines, &[meets, misses, unfinished, refused].map(byte));
+}
+
+/// Writes the frame of one vertex.
+fn write_verdict(lines: &mut String, task: TaskNo, vertex: VertexNo, verdict: &Verdict) {
+    let (kind, number) = match verdict {
+        Verdict::Meets { count } => (MEETS, *count),
+        Verdict::Misses { count, .. } => (MISSES, *count),
+        Verdict::Unfinished { budget } => (UNFINISHED, *budget),
+        Verdict::Refused(refusal) => (REFUSED, u32::from(refusal.number())),
+    };
+    let [n3, n2, n1, n0] = number.to_be_bytes();
+    let (task, vertex) = (byte(task.0), byte(vertex.0));
+    write_frame(lines, &[VERDICT_FRAME, task, vertex, kind, n3, n2, n1, n0]);
+}
+
+/// Writes one frame for each higher task of a missing vertex, from the witness area.
+fn write_paths(lines: &mut String, task: TaskNo, witness: &[u16]) {
+    let mut front = witness;
+    for higher in 0..task.0 {
+        // The frame goes on like the area: the path's length and vertices.
+        let (path, rest) = front.split_at(1 + usize::from(front[0]));
+        write_bytes(lines, &[PATH_FRAME, byte(higher)]);
+        for &cell in path {
+            write_bytes(lines, &[byte(cell)]);
+        }
+        lines.push('\n');
+        front = rest;
+    }
+}
+
+/// The byte of a number that the bounds keep below 256.
+fn byte(number: u16) -> u8 {
+    number as u8
+}
+
+/// Writes a whole frame as one line.
+fn write_frame(lines: &mut String, frame: &[u8]) {
+    write_bytes(lines, frame);
+    lines.push('\n');
+}
+
+/// Writes bytes as lower case digits.
+fn write_bytes(lines: &mut String, bytes: &[u8]) {
+    const DIGITS: [char; 16] = [
+        '0', '1', '2', '3', '4', '5', '6', '7', '8', '9', 'a', 'b', 'c', 'd', 'e', 'f',
+    ];
+    for byte in bytes {
+        lines.push(DIGITS[usize::from(byte / 16)]);
+        lines.push(DIGITS[usize::from(byte % 16)]);
+    }
+}

@@ -1,0 +1,15 @@
+//! A second deadline judge, written from document 01 alone.
+//!
+//! It is compared with the proved program and shares nothing with it.
+
+#![forbid(unsafe_code)]
+#![warn(missing_docs)]
+
+pub mod bounds;
+pub mod desk;
+pub mod judge;
+pub mod paths;
+pub mod refusal;
+pub mod table;
+pub mod text;
+mod walk;

@@ -1,0 +1,79 @@
+//! The desk program: one input, or with the argument `many` a sequence of texts.
+
+#![forbid(unsafe_code)]
+
+use second::bounds::INPUT_BYTES;
+use second::desk;
+use std::env;
+use std::io::{self, BufReader, BufWriter, Read, Write};
+use std::process::ExitCode;
+
+/// Runs by the arguments; exit status 1 after a failure, 2 after a wrong use.
+fn main() -> ExitCode {
+    let arguments: Vec<_> = env::args_os().skip(1).collect();
+    let result = match arguments.as_slice() {
+        [] => one(),
+        [argument] if argument == "many" => many(),
+        _ => {
+            complain("usage: second [many]");
+            return ExitCode::from(2);
+        }
+    };
+    match result {
+        Ok(()) => ExitCode::SUCCESS,
+        Err(error) => {
+            complain(&format!("second: {error}"));
+            ExitCode::FAILURE
+        }
+    }
+}
+
+/// Judges the whole standard input as one input.
+fn one() -> io::Result<()> {
+    let mut source = io::stdin().lock();
+    let mut input = Vec::new();
+    // One byte more than an input may have shows that it is too long.
+    let most = INPUT_BYTES as u64 + 1;
+    source.by_ref().take(most).read_to_end(&mut input)?;
+    io::copy(&mut source, &mut io::sink())?;
+    let mut target = io::stdout().lock();
+    target.write_all(desk::output(&input).as_bytes())?;
+    target.flush()
+}
+
+/// Judges each text of a sequence; texts and outputs are preceded by their lengths.
+fn many() -> io::Result<()> {
+    let mut source = BufReader::new(io::stdin().lock());
+    let mut target = BufWriter::new(io::stdout().lock());
+    while let Some(text) = next_text(&mut source)? {
+        let output = desk::output(&text);
+        // An output is far shorter than 4 bytes can count.
+        target.write_all(&(output.len() as u32).to_be_bytes())?;
+        target.write_all(output.as_bytes())?;
+    }
+    target.flush()
+}
+
+/// The next text of the sequence, or none at its end.
+fn next_text(source: &mut impl Read) -> io::Result<Option<Vec<u8>>> {
+    let mut length = Vec::new();
+    source.by_ref().take(4).read_to_end(&mut length)?;
+    if length.is_empty() {
+        return Ok(None);
+    }
+    let &[n3, n2, n1, n0] = length.as_slice() else {
+        return Err(io::Error::other("the sequence ends inside a length"));
+    };
+    let length = u64::from(u32::from_be_bytes([n3, n2, n1, n0]));
+    let mut text = Vec::new();
+    source.take(length).read_to_end(&mut text)?;
+    if (text.len() as u64) < length {
+        return Err(io::Error::other("the sequence ends inside a text"));
+    }
+    Ok(Some(text))
+}
+
+/// Writes one line to standard error; there is nobody to tell if that fails.
+fn complain(message: &str) {
+    let _ = writeln!(io::stderr(), "{message}");
+}

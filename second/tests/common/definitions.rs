@@ -1,0 +1,182 @@
+//! Document 01's definitions, tried out in full: slow, and sharing nothing with the program.
+
+use super::Task;
+
+/// Vertex numbers, each next one by an edge.
+pub type Path = Vec<usize>;
+
+/// The span of each prefix of a path; none if some step isn't an edge of the task.
+pub fn spans(task: &Task, path: &[usize]) -> Option<Vec<u32>> {
+    let first = *path.first()?;
+    let mut spans = vec![0];
+    task.vertices.get(first)?;
+    for step in path.windows(2) {
+        let edge = task
+            .edges
+            .iter()
+            .find(|edge| (edge.0, edge.1) == (step[0], step[1]))?;
+        spans.push(spans.last().unwrap() + edge.2);
+    }
+    Some(spans)
+}
+
+/// The load at t: the largest total e over the prefixes with span strictly below t.
+pub fn load(task: &Task, path: &[usize], t: u32) -> u32 {
+    let spans = spans(task, path).unwrap();
+    let prefixes = (1..=path.len()).filter(|&length| spans[length - 1] < t);
+    let total = |length| {
+        path[..length]
+            .iter()
+            .map(|&vertex| task.vertices[vertex].0)
+            .sum()
+    };
+    prefixes.map(total).max().unwrap()
+}
+
+/// The loads at t = 1 to d.
+pub fn loads(task: &Task, path: &[usize], d: u32) -> Vec<u32> {
+    (1..=d).map(|t| load(task, path, t)).collect()
+}
+
+/// Is the path legal, its span below d, and no edge out of its last vertex keeps it there?
+pub fn is_complete(task: &Task, path: &[usize], d: u32) -> bool {
+    let Some(spans) = spans(task, path) else {
+        return false;
+    };
+    let span = *spans.last().unwrap();
+    let last = *path.last().unwrap();
+    let mut out = task.edges.iter().filter(|edge| edge.0 == last);
+    span < d && out.all(|edge| span + edge.2 >= d)
+}
+
+/// Every path with span below d, complete or not, shorter ones first.
+pub fn all_paths(task: &Task, d: u32) -> Vec<Path> {
+    let mut all: Vec<Path> = (0..task.vertices.len())
+        .map(|vertex| vec![vertex])
+        .collect();
+    let mut at = 0;
+    while at < all.len() {
+        let path = all[at].clone();
+        let span = *spans(task, &path).unwrap().last().unwrap();
+        for edge in &task.edges {
+            if edge.0 == *path.last().unwrap() && span + edge.2 < d {
+                all.push([path.clone(), vec![edge.1]].concat());
+            }
+        }
+        at += 1;
+    }
+    all
+}
+
+/// The complete paths, in order.
+pub fn complete_paths(task: &Task, d: u32) -> Vec<Path> {
+    let mut paths = all_paths(task, d);
+    paths.retain(|path| is_complete(task, path, d));
+    paths.sort();
+    paths
+}
+
+/// How many complete paths there are, without listing them.
+pub fn count_paths(task: &Task, d: u32) -> u128 {
+    // At place r: the number of ways on from each vertex with r ticks left before d.
+    let mut ways: Vec<Vec<u128>> = vec![vec![]];
+    for left in 1..=d {
+        let from = |vertex| {
+            let out = task
+                .edges
+                .iter()
+                .filter(|edge| edge.0 == vertex && edge.2 < left);
+            let on = out.map(|edge| ways[(left - edge.2) as usize][edge.1]);
+            on.fold(0u128, u128::saturating_add).max(1)
+        };
+        let row = (0..task.vertices.len()).map(from).collect();
+        ways.push(row);
+    }
+    ways[d as usize]
+        .iter()
+        .fold(0, |sum, &n| sum.saturating_add(n))
+}
+
+/// Do e and the loads exceed t at every t?
+pub fn overload(e: u32, loads: &[&[u32]], d: u32) -> bool {
+    (1..=d).all(|t| e + loads.iter().map(|row| row[t as usize - 1]).sum::<u32>() > t)
+}
+
+/// The overloading choice that is least in path order, as places in the lists of loads.
+pub fn least_overloading(e: u32, d: u32, higher: &[Vec<Vec<u32>>]) -> Option<Vec<usize>> {
+    let mut choice = vec![0; higher.len()];
+    loop {
+        let rows: Vec<&[u32]> = higher
+            .iter()
+            .zip(&choice)
+            .map(|(rows, &n)| &rows[n][..])
+            .collect();
+        if overload(e, &rows, d) {
+            return Some(choice);
+        }
+        // The next choice in order: count up like a number whose last digit is the last task's.
+        let at = (0..higher.len())
+            .rev()
+            .find(|&at| choice[at] + 1 < higher[at].len())?;
+        choice[at] += 1;
+        choice[at + 1..].fill(0);
+    }
+}
+
+/// C by its definition: the groups all of whose parents overload, not after the witness.
+pub fn groups_to_examine(e: u32, d: u32, higher: &[Vec<Vec<u32>>]) -> u32 {
+    let top = higher.iter().map(|rows| (0, rows.len())).collect();
+    let mut groups = Groups {
+        e,
+        d,
+        higher,
+        count: 0,
+        witness: false,
+    };
+    groups.visit(top, true);
+    groups.count
+}
+
+/// All groups in the walk's order, of which some are counted.
+struct Groups<'a> {
+    e: u32,
+    d: u32,
+    higher: &'a [Vec<Vec<u32>>],
+    count: u32,
+    witness: bool,
+}
+
+impl Groups<'_> {
+    /// Visits a group (first, end of each range) and then all groups below it, overloading or not.
+    fn visit(&mut self, group: Vec<(usize, usize)>, parents_overload: bool) {
+        if self.witness {
+            return;
+        }
+        self.count += u32::from(parents_overload);
+        let overloads = self.overloads(&group);
+        let Some(task) = group.iter().position(|range| range.1 - range.0 > 1) else {
+            self.witness = overloads;
+            return;
+        };
+        let (first, end) = group[task];
+        let middle = end - (end - first) / 2;
+        for part in [(first, middle), (middle, end)] {
+            let mut child = group.clone();
+            child[task] = part;
+            self.visit(child, parents_overload && overloads);
+        }
+    }
+
+    /// Does the group overload by its ranges' largest loads?
+    fn overloads(&self, group: &[(usize, usize)]) -> bool {
+        let largest = |(rows, range): (&Vec<Vec<u32>>, &(usize, usize))| -> Vec<u32> {
+            let rows = &rows[range.0..range.1];
+            (0..self.d as usize)
+                .map(|cell| rows.iter().map(|row| row[cell]).max().unwrap())
+                .collect()
+        };
+        let ranges: Vec<Vec<u32>> = self.higher.iter().zip(group).map(largest).collect();
+        let rows: Vec<&[u32]> = ranges.iter().map(|row| &row[..]).collect();
+        overload(self.e, &rows, self.d)
+    }
+}

@@ -1,0 +1,132 @@
+//! What the tests share: texts by hand, the document's definitions, and a pseudo-random generator.
+
+#![allow(dead_code)]
+
+pub mod definitions;
+pub mod random;
+pub mod sheet;
+
+use second::judge::{judge, Verdict};
+use second::table::{TaskNo, VertexNo};
+
+/// A task as the tests write it down.
+#[derive(Clone, Debug, Default, PartialEq, Eq)]
+pub struct Task {
+    /// (e, d) of each vertex.
+    pub vertices: Vec<(u32, u32)>,
+    /// (from, to, p) of each edge.
+    pub edges: Vec<(usize, usize, u32)>,
+}
+
+/// A task of these vertices (e, d) and edges (from, to, p).
+pub fn task(vertices: &[(u32, u32)], edges: &[(usize, usize, u32)]) -> Task {
+    Task {
+        vertices: vertices.to_vec(),
+        edges: edges.to_vec(),
+    }
+}
+
+/// A self-edge task (e, d, p).
+pub fn self_edge(e: u32, d: u32, p: u32) -> Task {
+    task(&[(e, d)], &[(0, 0, p)])
+}
+
+/// A task frame's line.
+pub fn task_line(vertices: usize, edges: usize) -> String {
+    format!("01{vertices:02x}{edges:02x}\n")
+}
+
+/// A vertex frame's line.
+pub fn vertex_line(e: u32, d: u32) -> String {
+    format!("02{e:04x}{d:04x}\n")
+}
+
+/// An edge frame's line.
+pub fn edge_line(from: usize, to: usize, p: u32) -> String {
+    format!("03{from:02x}{to:02x}{p:04x}\n")
+}
+
+/// The text of these tasks without the end frame.
+pub fn open_text(tasks: &[Task]) -> String {
+    let mut text = String::new();
+    for task in tasks {
+        text += &task_line(task.vertices.len(), task.edges.len());
+        for &(e, d) in &task.vertices {
+            text += &vertex_line(e, d);
+        }
+        for &(from, to, p) in &task.edges {
+            text += &edge_line(from, to, p);
+        }
+    }
+    text
+}
+
+/// The whole text of these tasks.
+pub fn text(tasks: &[Task]) -> String {
+    open_text(tasks) + "00\n"
+}
+
+/// R1's tasks, with the last e.
+pub fn r1(last_e: u32) -> Vec<Task> {
+    vec![
+        self_edge(2, 5, 5),
+        self_edge(2, 7, 7),
+        self_edge(last_e, 6, 7),
+    ]
+}
+
+/// R5's tasks, with the judged d.
+pub fn r5(d: u32) -> Vec<Task> {
+    vec![task(&[(1, 5), (3, 5)], &[]), task(&[(2, d)], &[])]
+}
+
+/// R7's tasks.
+pub fn r7() -> Vec<Task> {
+    let above = task(&[(3, 10), (1, 2), (4, 10)], &[(1, 2, 2)]);
+    vec![above, task(&[(1, 5)], &[])]
+}
+
+/// R10's task of four vertices and all 16 edges with p 10.
+pub fn r10() -> Task {
+    let pairs = (0..4).flat_map(|from| (0..4).map(move |to| (from, to, 10)));
+    task(&[(1, 10); 4], &pairs.collect::<Vec<_>>())
+}
+
+/// R10's task with an edgeless fifth vertex.
+pub fn r10_with_fifth() -> Task {
+    let mut task = r10();
+    task.vertices.push((1, 10));
+    task
+}
+
+/// Cells filled with 1, 2, 3 and so on, so that any change shows.
+pub fn work_area(cells: usize) -> Vec<u32> {
+    (1..).take(cells).collect()
+}
+
+/// Cells filled with 1, 2, 3 and so on, so that any change shows.
+pub fn witness_area(cells: usize) -> Vec<u16> {
+    (1..).take(cells).collect()
+}
+
+/// A verdict without its areas: what the judge says with these lengths lent.
+pub fn judged(text: &str, numbers: (u16, u16), budget: u32, lent: (usize, usize)) -> Verdict {
+    let (task, vertex) = (TaskNo(numbers.0), VertexNo(numbers.1));
+    let (mut work, mut witness) = (work_area(lent.0), witness_area(lent.1));
+    judge(
+        text.as_bytes(),
+        task,
+        vertex,
+        budget,
+        &mut work,
+        &mut witness,
+    )
+}
+
+/// The number and place of a refused verdict.
+pub fn refusal(verdict: Verdict) -> Option<(u8, usize)> {
+    match verdict {
+        Verdict::Refused(refusal) => Some((refusal.number(), refusal.place)),
+        _ => None,
+    }
+}

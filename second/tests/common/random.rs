@@ -1,0 +1,123 @@
+//! A small pseudo-random generator, and random tables and texts.
+
+use super::{task_line, Task};
+
+/// A xorshift generator; the seed is anything but zero.
+pub struct Random(pub u64);
+
+impl Random {
+    /// The next 64 bits.
+    fn next(&mut self) -> u64 {
+        self.0 ^= self.0 << 13;
+        self.0 ^= self.0 >> 7;
+        self.0 ^= self.0 << 17;
+        self.0
+    }
+
+    /// A number from 0 to below the end, which is at least 1.
+    pub fn below(&mut self, end: usize) -> usize {
+        (self.next() >> 16) as usize % end
+    }
+
+    /// A number from the first to the last.
+    pub fn between(&mut self, first: u32, last: u32) -> u32 {
+        first + self.below((last - first + 1) as usize) as u32
+    }
+}
+
+/// The largest numbers of a random table.
+pub struct Size {
+    pub tasks: u32,
+    pub vertices: u32,
+    pub edges: usize,
+    pub e: u32,
+    pub d: u32,
+    pub p: u32,
+}
+
+/// A random valid table.
+pub fn table(random: &mut Random, size: &Size) -> Vec<Task> {
+    let tasks = random.between(1, size.tasks);
+    (0..tasks).map(|_| random_task(random, size)).collect()
+}
+
+/// A random valid task; short deadlines and separations are frequent, so that paths are many.
+fn random_task(random: &mut Random, size: &Size) -> Task {
+    let mut task = Task::default();
+    let longest = [size.d, size.d / 3, 2][random.below(3)];
+    for _ in 0..random.between(1, size.vertices) {
+        let e = random.between(1, size.e);
+        task.vertices.push((e, random.between(1, longest)));
+    }
+    let count = task.vertices.len();
+    let mut pairs: Vec<_> = (0..count * count).map(|n| (n / count, n % count)).collect();
+    let most = random.below(size.edges.min(pairs.len()) + 1);
+    while pairs.len() > most {
+        pairs.remove(random.below(pairs.len()));
+    }
+    let longest = [size.p, size.p / 3, 1][random.below(3)];
+    for (from, to) in pairs {
+        let least = task.vertices[from].1;
+        let p = random.between(least, longest.max(least));
+        task.edges.push((from, to, p));
+    }
+    task
+}
+
+/// Damages a text in one random way.
+pub fn damage(random: &mut Random, text: &mut Vec<u8>) {
+    let at = random.below(text.len() + 1);
+    let digit = b"0123456789abcdef"[random.below(16)];
+    match random.below(9) {
+        0 => text.truncate(at),
+        1 => text.insert(at, digit),
+        2 => text.insert(at, random.below(256) as u8),
+        3 => text.insert(at, b'\n'),
+        4 if at < text.len() => drop(text.remove(at)),
+        5 if at < text.len() => text[at] = random.below(256) as u8,
+        6 => damage_lines(random, text),
+        7 => text.push(digit),
+        _ if at < text.len() => text[at] = digit,
+        _ => (),
+    }
+}
+
+/// Drops, doubles or swaps whole lines of a text.
+fn damage_lines(random: &mut Random, text: &mut Vec<u8>) {
+    let mut lines: Vec<Vec<u8>> = text
+        .split_inclusive(|&b| b == b'\n')
+        .map(Vec::from)
+        .collect();
+    if lines.is_empty() {
+        return;
+    }
+    let (a, b) = (random.below(lines.len()), random.below(lines.len()));
+    match random.below(3) {
+        0 => drop(lines.remove(a)),
+        1 => lines.insert(a, lines[a].clone()),
+        _ => lines.swap(a, b),
+    }
+    *text = lines.concat();
+}
+
+/// Bytes without any sense.
+pub fn noise(random: &mut Random) -> Vec<u8> {
+    (0..random.below(40))
+        .map(|_| random.below(256) as u8)
+        .collect()
+}
+
+/// Lines that look like frames, in no sensible order.
+pub fn frames(random: &mut Random) -> Vec<u8> {
+    let mut text = task_line(random.below(3), random.below(3));
+    for _ in 0..random.below(8) {
+        let small = random.below(4);
+        text += &match random.below(5) {
+            0 => task_line(small, random.below(3)),
+            1 | 2 => format!("02000{small}000{}\n", random.below(3)),
+            3 => format!("030{}0{small}000{}\n", random.below(2), random.below(4)),
+            _ => format!("0{small}\n"),
+        };
+    }
+    (text + "00\n").into_bytes()
+}

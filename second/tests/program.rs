@@ -1,0 +1,98 @@
+//! The program itself: its two ways to run, and its exit statuses.
+
+mod common;
+
+use common::{r1, text};
+use std::io::Write;
+use std::process::{Command, Output, Stdio};
+
+/// R1's output.
+const R1_OUTPUT: &str = "1000000000000001\n1001000000000001\n1002000100000001\n\
+                         1100020000\n11010100\n1f02010000\n";
+
+/// Runs the program with these arguments and this standard input.
+fn run(arguments: &[&str], input: &[u8]) -> Output {
+    let mut program = Command::new(env!("CARGO_BIN_EXE_second"))
+        .args(arguments)
+        .stdin(Stdio::piped())
+        .stdout(Stdio::piped())
+        .stderr(Stdio::piped())
+        .spawn()
+        .unwrap();
+    // A program that is used wrongly may end before it has read everything.
+    let _ = program.stdin.take().unwrap().write_all(input);
+    program.wait_with_output().unwrap()
+}
+
+/// Bytes preceded by their length in 4 bytes.
+fn with_length(bytes: &[u8]) -> Vec<u8> {
+    let length = u32::try_from(bytes.len()).unwrap();
+    [&length.to_be_bytes(), bytes].concat()
+}
+
+#[test]
+fn one_input() {
+    let found = run(&[], text(&r1(2)).as_bytes());
+    assert_eq!(found.status.code(), Some(0));
+    assert_eq!(found.stdout, R1_OUTPUT.as_bytes());
+    assert!(found.stderr.is_empty());
+}
+
+#[test]
+fn one_input_around_the_longest() {
+    assert_eq!(run(&[], b"").stdout, b"1e060001\n");
+    assert_eq!(run(&[], &[b'0'; 8_191]).stdout, b"1e010001\n");
+    for bytes in [8_192, 8_193, 300_000] {
+        let found = run(&[], &vec![b'0'; bytes]);
+        assert_eq!(found.stdout, b"1e0c0000\n");
+        assert_eq!(found.status.code(), Some(0));
+    }
+}
+
+#[test]
+fn many_texts() {
+    let r1 = text(&r1(2));
+    let texts = [r1.as_bytes(), b"", b"00\n", &[0; 9_000], r1.as_bytes()];
+    let outputs = [
+        R1_OUTPUT,
+        "1e060001\n",
+        "1e020001\n",
+        "1e0c0000\n",
+        R1_OUTPUT,
+    ];
+    let found = run(&["many"], &texts.map(with_length).concat());
+    let expected = outputs.map(|output| with_length(output.as_bytes()));
+    assert_eq!(found.stdout, expected.concat());
+    assert_eq!(found.status.code(), Some(0));
+    assert!(found.stderr.is_empty());
+}
+
+#[test]
+fn no_texts() {
+    let found = run(&["many"], b"");
+    assert_eq!(found.status.code(), Some(0));
+    assert!(found.stdout.is_empty() && found.stderr.is_empty());
+}
+
+#[test]
+fn a_broken_sequence() {
+    let whole = with_length(b"00\n");
+    let beginnings = (1..whole.len()).map(|end| whole[..end].to_vec());
+    for broken in beginnings.chain([vec![0xff; 4], vec![0xff; 100]]) {
+        for sequence in [broken.clone(), [whole.clone(), broken].concat()] {
+            let found = run(&["many"], &sequence);
+            assert_eq!(found.status.code(), Some(1));
+            assert!(!found.stderr.is_empty());
+        }
+    }
+}
+
+#[test]
+fn wrong_arguments() {
+    for arguments in [&["one"][..], &["many", "more"], &["--help"], &[""]] {
+        let found = run(arguments, b"");
+        assert_eq!(found.status.code(), Some(2));
+        assert!(found.stdout.is_empty());
+        assert_eq!(String::from_utf8(found.stderr).unwrap().lines().count(), 1);
+    }
+}

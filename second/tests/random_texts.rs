@@ -1,0 +1,396 @@
+//! Random and damaged texts, each checked against document 01's definitions tried out in full.
+
+mod common;
+
+use common::definitions::*;
+use common::random::{damage, frames, noise, table, Random, Size};
+use common::sheet::tasks_or_refusal;
+use common::{text, witness_area, work_area, Task};
+use second::desk;
+use second::judge::{judge, judge_table, Counts, Verdict};
+use second::table::{TaskNo, VertexNo};
+
+/// Up to this many choices are tried one by one.
+const CHOICES: u128 = 3_000;
+
+/// How often each kind of answer was met, so that no check is empty by accident.
+#[derive(Debug, Default)]
+struct Seen {
+    refused_texts: [u32; 8],
+    meets: u32,
+    misses: u32,
+    refused_by_9: u32,
+    refused_by_10: u32,
+    exact: u32,
+    several_groups: u32,
+    later_paths: u32,
+}
+
+/// Small tables, for which every choice can be tried.
+const SMALL: Size = Size {
+    tasks: 4,
+    vertices: 3,
+    edges: 5,
+    e: 3,
+    d: 9,
+    p: 9,
+};
+
+/// Tables of the document's full bounds.
+const LARGE: Size = Size {
+    tasks: 8,
+    vertices: 12,
+    edges: 32,
+    e: 30,
+    d: 200,
+    p: 400,
+};
+
+#[test]
+fn small_tables() {
+    let mut random = Random(1);
+    let mut seen = Seen::default();
+    for _ in 0..10_000 {
+        check_desk(text(&table(&mut random, &SMALL)).as_bytes(), &mut seen);
+    }
+    let Seen { meets, misses, .. } = seen;
+    assert!(meets > 1_000 && misses > 1_000, "{seen:?}");
+    assert!(
+        seen.several_groups > 300 && seen.later_paths > 100,
+        "{seen:?}"
+    );
+    assert!(seen.exact > 3_000 && seen.refused_by_9 > 5, "{seen:?}");
+}
+
+#[test]
+fn large_tables() {
+    let mut random = Random(2);
+    let mut seen = Seen::default();
+    for _ in 0..600 {
+        check_desk(text(&table(&mut random, &LARGE)).as_bytes(), &mut seen);
+    }
+    let Seen { meets, misses, .. } = seen;
+    assert!(meets > 100 && misses > 100 && seen.exact > 100, "{seen:?}");
+    assert!(
+        seen.refused_by_9 > 10 && seen.refused_by_10 > 10,
+        "{seen:?}"
+    );
+}
+
+#[test]
+fn damaged_texts() {
+    let mut random = Random(3);
+    let mut seen = Seen::default();
+    for _ in 0..10_000 {
+        let mut bytes = text(&table(&mut random, &SMALL)).into_bytes();
+        for _ in 0..=random.below(3) {
+            damage(&mut random, &mut bytes);
+        }
+        check_desk(&bytes, &mut seen);
+    }
+    for _ in 0..6_000 {
+        check_desk(&frames(&mut random), &mut seen);
+        check_desk(&noise(&mut random), &mut seen);
+    }
+    assert!(seen.refused_texts[1..].iter().all(|&n| n > 30), "{seen:?}");
+    assert!(seen.meets > 100 && seen.misses > 100, "{seen:?}");
+}
+
+#[test]
+fn budgets_and_areas() {
+    let mut random = Random(4);
+    for _ in 0..600 {
+        let tasks = table(&mut random, &SMALL);
+        for number in 0..tasks.len() {
+            for vertex in 0..tasks[number].vertices.len() {
+                check_budgets(&tasks, number, vertex);
+            }
+        }
+    }
+}
+
+#[test]
+fn whole_tables() {
+    let mut random = Random(5);
+    for _ in 0..600 {
+        let tasks = table(&mut random, &SMALL);
+        check_table(&mut random, &tasks);
+    }
+}
+
+/// Checks the desk's output for any bytes.
+fn check_desk(input: &[u8], seen: &mut Seen) {
+    let output = desk::output(input);
+    match tasks_or_refusal(input) {
+        Err((number, line)) => {
+            assert_eq!(output, format!("1e{number:02x}{line:04x}\n"));
+            seen.refused_texts[usize::from(number)] += 1;
+        }
+        Ok(tasks) => check_frames(&tasks, &output, seen),
+    }
+}
+
+/// The bytes of the output's frames.
+fn output_frames(output: &str) -> Vec<Vec<u32>> {
+    let byte = |line: &str, at| u32::from_str_radix(&line[at..at + 2], 16).unwrap();
+    let bytes = |line: &str| {
+        (0..line.len())
+            .step_by(2)
+            .map(|at| byte(line, at))
+            .collect()
+    };
+    assert!(output.ends_with('\n') && !output.contains(char::is_uppercase));
+    output.lines().map(bytes).collect()
+}
+
+/// Checks the frames of a valid text: every vertex, then the counts.
+fn check_frames(tasks: &[Task], output: &str, seen: &mut Seen) {
+    let mut frames = output_frames(output).into_iter();
+    let mut counts = [0; 4];
+    for number in 0..tasks.len() {
+        for vertex in 0..tasks[number].vertices.len() {
+            let frame = frames.next().unwrap();
+            assert_eq!(frame[..3], [0x10, number as u32, vertex as u32]);
+            assert_eq!(frame.len(), 8);
+            let count = frame[4..].iter().fold(0, |sum, byte| sum * 256 + byte);
+            counts[frame[3] as usize] += 1;
+            let paths = match frame[3] {
+                1 => frames.by_ref().take(number).collect(),
+                _ => Vec::new(),
+            };
+            let (e, d) = tasks[number].vertices[vertex];
+            let asked = Asked {
+                e,
+                d,
+                higher: &tasks[..number],
+            };
+            asked.check(frame[3], count, &paths, seen);
+        }
+    }
+    let last = [&[0x1f], &counts[..]].concat();
+    assert_eq!(frames.next(), Some(last));
+    assert_eq!(frames.next(), None);
+}
+
+/// A vertex of which a verdict is checked.
+struct Asked<'a> {
+    e: u32,
+    d: u32,
+    higher: &'a [Task],
+}
+
+impl Asked<'_> {
+    /// The number of each higher task's complete paths.
+    fn path_counts(&self) -> Vec<u128> {
+        let counts = self.higher.iter().map(|task| count_paths(task, self.d));
+        counts.collect()
+    }
+
+    /// The refusal number that the desk has to give, if any.
+    fn refusal(&self) -> Option<u32> {
+        let counts = self.path_counts();
+        if counts.iter().any(|&paths| paths > 64) {
+            return Some(9);
+        }
+        let rows: u128 = counts.iter().map(|paths| 2 * paths - 1).sum();
+        (rows * u128::from(self.d) > 8_192).then_some(10)
+    }
+
+    /// Checks a verdict with its count and path frames.
+    fn check(&self, verdict: u32, count: u32, paths: &[Vec<u32>], seen: &mut Seen) {
+        if let Some(number) = self.refusal() {
+            assert_eq!((verdict, count), (3, number));
+            seen.refused_by_9 += u32::from(number == 9);
+            seen.refused_by_10 += u32::from(number == 10);
+            return;
+        }
+        let product: u128 = self.path_counts().iter().product();
+        match verdict {
+            0 => seen.meets += 1,
+            1 => {
+                self.check_paths(paths);
+                seen.misses += 1;
+            }
+            2 => {
+                assert!(count == 100_000 && product > 50_000);
+                return;
+            }
+            _ => panic!("refused without reason"),
+        }
+        assert!(count >= 1 && u128::from(count) < 2 * product);
+        seen.several_groups += u32::from(count > 1);
+        if product <= CHOICES {
+            self.check_exactly(verdict, count, paths, seen);
+        }
+    }
+
+    /// Checks that the paths of a miss are legal, complete, and overload every tick.
+    fn check_paths(&self, frames: &[Vec<u32>]) {
+        let mut rows = Vec::new();
+        for (number, (task, frame)) in self.higher.iter().zip(frames).enumerate() {
+            assert_eq!(frame[..2], [0x11, number as u32]);
+            assert_eq!(frame[2] as usize, frame.len() - 3);
+            let path = path_of(frame);
+            assert!(is_complete(task, &path, self.d));
+            rows.push(loads(task, &path, self.d));
+        }
+        assert_eq!(frames.len(), self.higher.len());
+        let rows: Vec<&[u32]> = rows.iter().map(|row| &row[..]).collect();
+        assert!(overload(self.e, &rows, self.d));
+    }
+
+    /// Checks verdict, witness and count by trying every choice and every group.
+    fn check_exactly(&self, verdict: u32, count: u32, frames: &[Vec<u32>], seen: &mut Seen) {
+        let lists: Vec<_> = self
+            .higher
+            .iter()
+            .map(|task| complete_paths(task, self.d))
+            .collect();
+        let rows = self.rows(&lists);
+        let least = least_overloading(self.e, self.d, &rows);
+        assert_eq!(least.is_some(), verdict == 1);
+        assert_eq!(groups_to_examine(self.e, self.d, &rows), count);
+        for (place, frame) in least.iter().flatten().enumerate().zip(frames) {
+            assert_eq!(lists[place.0][*place.1], path_of(frame));
+        }
+        seen.later_paths += u32::from(least.is_some_and(|places| places.iter().any(|&n| n > 0)));
+        seen.exact += 1;
+        self.check_all_paths(verdict);
+    }
+
+    /// Checks a verdict over all legal paths, complete or not; longer ones have the same loads.
+    fn check_all_paths(&self, verdict: u32) {
+        let lists: Vec<_> = self
+            .higher
+            .iter()
+            .map(|task| all_paths(task, self.d))
+            .collect();
+        if lists
+            .iter()
+            .map(|list| list.len() as u128)
+            .product::<u128>()
+            <= CHOICES
+        {
+            let least = least_overloading(self.e, self.d, &self.rows(&lists));
+            assert_eq!(least.is_some(), verdict == 1);
+        }
+    }
+
+    /// The loads at t = 1 to d of every path of every list.
+    fn rows(&self, lists: &[Vec<Path>]) -> Vec<Vec<Vec<u32>>> {
+        let rows = |(task, list): (&Task, &Vec<Path>)| -> Vec<Vec<u32>> {
+            list.iter().map(|path| loads(task, path, self.d)).collect()
+        };
+        self.higher.iter().zip(lists).map(rows).collect()
+    }
+}
+
+/// The vertices of a path frame.
+fn path_of(frame: &[u32]) -> Path {
+    frame[3..].iter().map(|&vertex| vertex as usize).collect()
+}
+
+/// The cells that a vertex needs of both areas; none if refusal 9 holds.
+fn cells_needed(tasks: &[Task], number: usize, d: u32) -> Option<(usize, usize)> {
+    let mut rows = 0;
+    for task in &tasks[..number] {
+        let paths = count_paths(task, d);
+        if paths > 64 {
+            return None;
+        }
+        rows += 2 * paths as usize - 1;
+    }
+    Some((d as usize * rows, number * (1 + d as usize)))
+}
+
+/// Checks one vertex's verdict and areas with budgets around its count.
+fn check_budgets(tasks: &[Task], number: usize, vertex: usize) {
+    let d = tasks[number].vertices[vertex].1;
+    let Some((needed, witness_needed)) = cells_needed(tasks, number, d) else {
+        return;
+    };
+    let bytes = text(tasks).into_bytes();
+    let judged = |budget, more| {
+        let (mut work, mut witness) = (
+            work_area(needed + more),
+            witness_area(witness_needed + more),
+        );
+        let (task, vertex) = (TaskNo(number as u16), VertexNo(vertex as u16));
+        let verdict = judge(&bytes, task, vertex, budget, &mut work, &mut witness);
+        assert!(work[..needed].iter().all(|&cell| cell == 0));
+        assert_eq!(work[needed..], work_area(needed + more)[needed..]);
+        (verdict, witness)
+    };
+    let (whole, witness) = judged(u32::MAX, 0);
+    let (count, written) = match whole {
+        Verdict::Meets { count } => (count, 0),
+        Verdict::Misses { count, cells } => (count, cells),
+        other => panic!("{other:?}"),
+    };
+    assert_eq!(witness[written..], witness_area(witness_needed)[written..]);
+    for budget in [count, count + 1] {
+        let (verdict, more) = judged(budget, 3);
+        assert_eq!((verdict, &more[..written]), (whole, &witness[..written]));
+        assert_eq!(more[written..], witness_area(witness_needed + 3)[written..]);
+    }
+    for budget in [0, count / 2, count - 1] {
+        let unfinished = Verdict::Unfinished { budget };
+        let expected = (unfinished, witness_area(witness_needed));
+        assert_eq!(judged(budget, 0), expected);
+    }
+}
+
+/// Checks a whole table against its vertices, with a random work area and rising budgets.
+fn check_table(random: &mut Random, tasks: &[Task]) {
+    let bytes = text(tasks).into_bytes();
+    let cells = random.below(400);
+    let mut before = Counts::default();
+    for budget in [0, 1, 2, 5, 20, u32::MAX] {
+        let mut work = work_area(cells);
+        let counts = judge_table(&bytes, budget, &mut work).unwrap();
+        assert_eq!(counts, count_each(tasks, &bytes, budget, cells));
+        let mut expected = work_area(cells);
+        expected[..largest_need(tasks, cells)].fill(0);
+        assert_eq!(work, expected);
+        assert!(counts.meets >= before.meets && counts.misses >= before.misses);
+        before = counts;
+    }
+    assert_eq!(before.unfinished, 0);
+}
+
+/// The counts of a table from judging each vertex by itself.
+fn count_each(tasks: &[Task], bytes: &[u8], budget: u32, cells: usize) -> Counts {
+    let mut counts = Counts::default();
+    let mut vertices = 0;
+    for (number, task) in (0..).zip(tasks) {
+        for vertex in 0..task.vertices.len() as u16 {
+            let (mut work, mut witness) = (work_area(cells), witness_area(1_407));
+            let (task, vertex) = (TaskNo(number), VertexNo(vertex));
+            match judge(bytes, task, vertex, budget, &mut work, &mut witness) {
+                Verdict::Meets { .. } => counts.meets += 1,
+                Verdict::Misses { .. } => counts.misses += 1,
+                Verdict::Unfinished { .. } => counts.unfinished += 1,
+                Verdict::Refused(_) => counts.refused += 1,
+            }
+            vertices += 1;
+        }
+    }
+    let sum = counts.meets + counts.misses + counts.unfinished + counts.refused;
+    assert_eq!(sum, vertices);
+    counts
+}
+
+/// The largest need of work cells among the vertices that are not refused.
+fn largest_need(tasks: &[Task], cells: usize) -> usize {
+    let vertices = tasks.iter().enumerate().flat_map(|(number, task)| {
+        let needs = task
+            .vertices
+            .iter()
+            .map(move |&(_, d)| cells_needed(tasks, number, d));
+        needs.flatten().map(|needed| needed.0)
+    });
+    vertices
+        .filter(|&needed| needed <= cells)
+        .max()
+        .unwrap_or(0)
+}
