@@ -1,0 +1,39 @@
+-- A record stands for the table that it is the record of. Assumes nothing.
+use mathlib.Core.Path.{_≡_, refl, ap, ap₂, _∙_}
+use Prim.Native.Nat.{ℕ, _-_, _<_, suc}
+use mathlib.Core.List.{List, [], _∷_, map}
+use lib.ListN.{length, take, replicate, getD, List·getD-append}
+use lib.Seq.{take-at}
+use Rattle.meaning.specs.Bounds.{mostTasks, mostVertices, mostEdges}
+use Rattle.meaning.specs.Table as Meant
+use Rattle.table.specs.declared.Task.{Task}
+use Rattle.table.specs.Record.{padded, noTask, noVertex, noEdge, vertexRecord, edgeRecord, taskRecord, tableRecord, vertexOf, taskOf, tableOf, edgeOf}
+
+-- the front of a padded list, and an element of it
+pub take-padded : {X : Type 0} (n : ℕ) (z : X) (xs : List X) → take (length xs) (padded n z xs) ≡ xs
+unfolding padded
+take-padded n z xs = take-at xs (replicate (n - length xs) z) (length xs) refl
+
+pub getD-padded : {X : Type 0} (n : ℕ) (z w : X) (xs : List X) (i : ℕ) → i < length xs → getD (padded n z xs) i w ≡ getD xs i w
+unfolding padded
+getD-padded n z w xs i h = List·getD-append xs (replicate (n - length xs) z) w i h
+
+-- what f makes of each element, undone by g
+undone : {X Y : Type 0} (f : X → Y) (g : Y → X) → ((x : X) → g (f x) ≡ x) → (xs : List X) → map g (map f xs) ≡ xs
+undone f g h [] = refl
+undone {X} f g h (x ∷ xs) = ap₂ {C = List X} (λ (y : X) (ys : List X). y ∷ ys) (h x) (undone f g h xs)
+
+unpadded : {X Y : Type 0} (f : X → Y) (g : Y → X) → ((x : X) → g (f x) ≡ x) → (n : ℕ) (z : Y) (xs : List X) → map g (take (length xs) (padded n z (map f xs))) ≡ xs
+unpadded {X} {Y} f g h n z xs = ap (λ (k : ℕ). map g (take k (padded n z (map f xs)))) (same xs) ∙ ap (map g) (take-padded n z (map f xs)) ∙ undone f g h xs
+  where
+    same : (ys : List X) → length ys ≡ length (map f ys)
+    same [] = refl
+    same (y ∷ ys) = ap suc (same ys)
+
+pub task-of-record : (k : Meant.Task) → taskOf (taskRecord k) ≡ k
+task-of-record k =
+    ap₂ {C = Meant.Task} (λ (vs : List Meant.Vertex) (es : List Meant.Edge). record { vertices = vs; edges = es })
+    (unpadded vertexRecord vertexOf (λ x. refl) mostVertices noVertex (k .vertices)) (unpadded edgeRecord edgeOf (λ x. refl) mostEdges noEdge (k .edges))
+
+pub table-of-record : (ts : Meant.Table) → tableOf (tableRecord ts) ≡ ts
+table-of-record ts = unpadded taskRecord taskOf task-of-record mostTasks noTask ts

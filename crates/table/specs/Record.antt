@@ -1,0 +1,70 @@
+-- The record of a table, every cell of it, and the table that a record stands for. Assumes nothing.
+use Prim.Native.Nat.{ℕ, _-_}
+use mathlib.Core.List.{List, _++_, map}
+use lib.ListN.{length, take, replicate}
+use Rattle.meaning.specs.Bounds.{mostTasks, mostVertices, mostEdges}
+use Rattle.meaning.specs.Table as Meant
+use Rattle.kinds.specs.declared.Ticks.{Ticks}
+use Rattle.kinds.specs.declared.VertexNumber.{VertexNumber}
+use Rattle.table.specs.declared.Vertex.{Vertex}
+use Rattle.table.specs.declared.Edge.{Edge}
+use Rattle.table.specs.declared.Task.{Task}
+use Rattle.table.specs.declared.Table.{Table}
+
+abbrev pub ticks : ℕ → Ticks
+ticks n = record { 0 = n }
+
+abbrev pub vertexNumber : ℕ → VertexNumber
+vertexNumber n = record { 0 = n }
+
+-- ---- with nothing in them
+
+abbrev pub noVertex : Vertex
+noVertex = record { e = ticks 0; d = ticks 0 }
+
+abbrev pub noEdge : Edge
+noEdge = record { from = vertexNumber 0; to = vertexNumber 0; p = ticks 0 }
+
+abbrev pub noTask : Task
+noTask = record { nv = 0; ne = 0; vertices = replicate mostVertices noVertex; edges = replicate mostEdges noEdge }
+
+abbrev pub noTable : Table
+noTable = record { n = 0; tasks = replicate mostTasks noTask }
+
+-- ---- the record of a table
+
+-- a list, filled up to n places
+unfoldable pub padded : {X : Type 0} → ℕ → X → List X → List X
+padded n z xs = xs ++ replicate (n - length xs) z
+
+abbrev pub vertexRecord : Meant.Vertex → Vertex
+vertexRecord x = record { e = ticks (x .e); d = ticks (x .d) }
+
+abbrev pub edgeRecord : Meant.Edge → Edge
+edgeRecord x = record { from = vertexNumber (x .from); to = vertexNumber (x .to); p = ticks (x .p) }
+
+abbrev pub verticesRecord : List Meant.Vertex → List Vertex
+verticesRecord vs = padded mostVertices noVertex (map vertexRecord vs)
+
+abbrev pub edgesRecord : List Meant.Edge → List Edge
+edgesRecord es = padded mostEdges noEdge (map edgeRecord es)
+
+abbrev pub taskRecord : Meant.Task → Task
+taskRecord k = record { nv = length (k .vertices); ne = length (k .edges); vertices = verticesRecord (k .vertices); edges = edgesRecord (k .edges) }
+
+abbrev pub tableRecord : Meant.Table → Table
+tableRecord ts = record { n = length ts; tasks = padded mostTasks noTask (map taskRecord ts) }
+
+-- ---- the table that a record stands for
+
+abbrev pub vertexOf : Vertex → Meant.Vertex
+vertexOf x = record { e = x .e .0; d = x .d .0 }
+
+abbrev pub edgeOf : Edge → Meant.Edge
+edgeOf x = record { from = x .from .0; to = x .to .0; p = x .p .0 }
+
+abbrev pub taskOf : Task → Meant.Task
+taskOf k = record { vertices = map vertexOf (take (k .nv) (k .vertices)); edges = map edgeOf (take (k .ne) (k .edges)) }
+
+abbrev pub tableOf : Table → Meant.Table
+tableOf t = map taskOf (take (t .n) (t .tasks))

@@ -1,0 +1,73 @@
+// What the tool judges, by value: "A table holds tasks in priority order; task 0 is highest."
+// A list is an array with its length beside it; the places behind the length hold zeros.
+use kinds::Ticks;
+use kinds::VertexNumber;
+ghost use mathlib.Core.Path.{_≡_};
+ghost use Rattle.table.specs.Record.{noVertex, noEdge, noTask, noTable};
+
+pub struct Vertex {
+    pub e: Ticks,
+    pub d: Ticks,
+}
+
+pub struct Edge {
+    pub from: VertexNumber,
+    pub to: VertexNumber,
+    pub p: Ticks,
+}
+
+// nv vertices and ne edges.
+pub struct Task {
+    pub nv: usize,
+    pub ne: usize,
+    pub vertices: [Vertex; 12],
+    pub edges: [Edge; 32],
+}
+
+// n tasks.
+pub struct Table {
+    pub n: usize,
+    pub tasks: [Task; 8],
+}
+
+pub fn no_vertex() -> Vertex
+    ensures { λ r. ⌜ r ≡ noVertex ⌝ }
+{
+    Vertex {
+        e: Ticks(0),
+        d: Ticks(0),
+    }
+}
+
+pub fn no_edge() -> Edge
+    ensures { λ r. ⌜ r ≡ noEdge ⌝ }
+{
+    Edge {
+        from: VertexNumber(0),
+        to: VertexNumber(0),
+        p: Ticks(0),
+    }
+}
+
+pub fn no_task() -> Task
+    ensures { λ r. ⌜ r ≡ noTask ⌝ }
+{
+    let x = no_vertex();
+    let y = no_edge();
+    Task {
+        nv: 0,
+        ne: 0,
+        vertices: [x; 12],
+        edges: [y; 32],
+    }
+}
+
+pub fn no_table() -> Table
+    ensures { λ r. ⌜ r ≡ noTable ⌝ }
+{
+    let k = no_task();
+    Table {
+        n: 0,
+        tasks: [k; 8],
+    }
+}
