@@ -16,6 +16,7 @@ use Rattle.meaning.proofs.Complete.{listed-exactly, listed-short}
 use Rattle.meaning.proofs.Groups.{full, in-overload, quiet-choice, split-choices}
 use Rattle.meaning.proofs.Run.{run-top, run-top-short, count-some}
 use Rattle.meaning.proofs.Answers.{sound-higher, misses-says, meets-says, overload-misses, free-meets, given-lasts, short-unfinished, unfinished-short, few-groups}
+use Rattle.meaning.proofs.Whole.{verdict-at}
 use Rattle.meaning.proofs.Counts.{counts-all, meets-mono, misses-mono}
 
 -- every readable table keeps the bounds
@@ -67,4 +68,4 @@ module _ {X : Type 0} (load : X → ℕ → ℕ) (e d : ℕ) where
   walk-sees top f = record { enough = λ b. run-top load e d b top f; short = λ b. run-top-short load e d b top }
 
 pub four-counts : (ts : Table) (work : ℕ) → FourCounts ts work
-four-counts ts work = record { adds-up = λ b. counts-all ts b work; meets-more = meets-mono ts work; misses-more = misses-mono ts work }
+four-counts ts work = record { each = λ b wit. verdict-at ts b work wit; adds-up = λ b. counts-all ts b work; meets-more = meets-mono ts work; misses-more = misses-mono ts work }

@@ -20,5 +20,6 @@ pub mod Verdicts
 pub mod Readable
 pub mod Answers
 pub mod Counts
+pub mod Whole
 pub mod Demands
 pub mod Bench

@@ -13,8 +13,9 @@ use Rattle.meaning.specs.Paths.{Path, legal, complete, load, completePat
 use Rattle.meaning.specs.Groups.{overloads, choiceOverloads, single, firstChild, secondChild, choices, In, count, witness}
 use Rattle.meaning.specs.Walk.{run, ended, cut}
 use Rattle.meaning.specs.Verdict.{Verdict, meets, misses, unfinished, refused, loadOf, topOf, ownE, deadline}
-use Rattle.meaning.specs.Judge.{refusal, answer}
-use Rattle.meaning.specs.Whole.{countsOf, verdicts}
+use Rattle.meaning.specs.Areas.{witnessNeed}
+use Rattle.meaning.specs.Judge.{refusal, judged, answer}
+use Rattle.meaning.specs.Whole.{Place, places, verdictAt, countsOf, verdicts}
 
 -- ---- one path of each task
 
@@ -58,7 +59,8 @@ Overloadable ts i v = (ws : List Path) × Legals (higher ts i) ws × Overload (h
 pub record First (ts : Table) (i v : ℕ) (ws : List Path) : Type 0 where
   pub complete : Completes (deadline ts i v) (higher ts i) ws
   pub overload : Overload (higher ts i) (ownE ts i v) (deadline ts i v) ws
-  pub first : (us : List Path) → Completes (deadline ts i v) (higher ts i) us → Overload (higher ts i) (ownE ts i v) (deadline ts i v) us → (ws ≡ us) ⊎ ChoiceBefore ws us
+  pub first : (us : List Path) → Completes (deadline ts i v) (higher ts i) us → Overload (higher ts i) (ownE ts i v) (deadline ts i v) us
+      → (ws ≡ us) ⊎ ChoiceBefore ws us
 
 -- the number of groups that document 01's rule has to examine
 abbrev pub C : Table → ℕ → ℕ → ℕ
@@ -72,9 +74,11 @@ Admitted ts i v work wit = refusal ts i v work wit ≡ none
 -- those tasks, of any length, together overload every tick up to the deadline [..]. The paths returned are the first such among document 01's
 -- complete paths, in its order. "Meets" is said only if there are none."
 pub record Demand2 (text : List ℕ) (ts : Table) (i v b work wit : ℕ) : Type 0 where
-  pub misses-only : (c : ℕ) (ws : List Path) → answer text i v b work wit ≡ misses c ws → Overloadable ts i v × First ts i v ws × (c ≡ C ts i v)
+  pub misses-only : (c : ℕ) (ws : List Path) → answer text i v b work wit ≡ misses c ws
+      → Overloadable ts i v × First ts i v ws × (c ≡ C ts i v)
   pub meets-only : (c : ℕ) → answer text i v b work wit ≡ meets c → (Overloadable ts i v → ⊥) × (c ≡ C ts i v)
-  pub misses-if : Admitted ts i v work wit → C ts i v ≤ b → Overloadable ts i v → (ws : List Path) × (answer text i v b work wit ≡ misses (C ts i v) ws)
+  pub misses-if : Admitted ts i v work wit → C ts i v ≤ b → Overloadable ts i v
+      → (ws : List Path) × (answer text i v b work wit ≡ misses (C ts i v) ws)
   pub meets-if : Admitted ts i v work wit → C ts i v ≤ b → (Overloadable ts i v → ⊥) → answer text i v b work wit ≡ meets (C ts i v)
 
 -- ---- demand 3
@@ -128,8 +132,10 @@ module _ {X : Type 0} (load : X → ℕ → ℕ) (e d : ℕ) where
 abbrev pub vertexTotal : Table → ℕ
 vertexTotal ts = sum (map (λ (k : Task). length (k .vertices)) ts)
 
--- The four counts add up to the number of vertices; more budget never lowers the first two.
+-- A whole table's verdicts are those of its vertices. The four counts add up to their number; more budget never lowers the first two.
 pub record FourCounts (ts : Table) (work : ℕ) : Type 0 where
+  pub each : (b wit : ℕ) (q : Place) → List·Memᴰ q (places ts) → witnessNeed ts (q .task) (q .vertex) ≤ wit
+      → verdictAt ts b work q ≡ judged ts (q .task) (q .vertex) b work wit
   pub adds-up : (b : ℕ) → (let n = countsOf (verdicts ts b work) in n .meeting + n .missing + n .unfinishing + n .refusing) ≡ vertexTotal ts
   pub meets-more : (b b′ : ℕ) → b ≤ b′ → countsOf (verdicts ts b work) .meeting ≤ countsOf (verdicts ts b′ work) .meeting
   pub misses-more : (b b′ : ℕ) → b ≤ b′ → countsOf (verdicts ts b work) .missing ≤ countsOf (verdicts ts b′ work) .missing

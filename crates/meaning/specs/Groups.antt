@@ -78,7 +78,9 @@ module _ {X : Type 0} where
   groupsFrom (suc depth) parents g =
       elim (single g) [
         | true ↦ record { group = g; parents = parents } ∷ []
-        | false ↦ record { group = g; parents = parents } ∷ (groupsFrom depth (g ∷ parents) (firstChild g) ++ groupsFrom depth (g ∷ parents) (secondChild g))
+        | false ↦
+            record { group = g; parents = parents }
+            ∷ (groupsFrom depth (g ∷ parents) (firstChild g) ++ groupsFrom depth (g ∷ parents) (secondChild g))
       ]
 
   abbrev pub allGroups : List (List X) → List (Placed X)

@@ -102,7 +102,13 @@ taskFrame s nv ne =
 abbrev pub vertexFrame : Begun → ℕ → ℕ → Step
 vertexFrame s e d =
     gate (within 1 largestE e && within 1 largestD d) 3
-    (on (record { tasks = s .tasks; vertices = s .vertices ++ (record { e = e; d = d } ∷ []); edges = s .edges; wantV = s .wantV - 1; wantE = s .wantE }))
+    (on (record {
+      tasks = s .tasks;
+      vertices = s .vertices ++ (record { e = e; d = d } ∷ []);
+      edges = s .edges;
+      wantV = s .wantV - 1;
+      wantE = s .wantE;
+    }))
 
 -- strictly rising order of (from, to): an edge stands after the one before it in its task
 abbrev pub afterLast : List Edge → Edge → Bool
@@ -115,7 +121,13 @@ edgeFrame s from to p =
     gate (ltb from (length (s .vertices)) && ltb to (length (s .vertices)) && within 1 largestP p) 3
     (gate (leb (getD (s .vertices) from noVertex .d) p) 4
     (gate (afterLast (s .edges) (record { from = from; to = to; p = p })) 5
-    (on (record { tasks = s .tasks; vertices = s .vertices; edges = s .edges ++ (record { from = from; to = to; p = p } ∷ []); wantV = 0; wantE = s .wantE - 1 }))))
+    (on (record {
+      tasks = s .tasks;
+      vertices = s .vertices;
+      edges = s .edges ++ (record { from = from; to = to; p = p } ∷ []);
+      wantV = 0;
+      wantE = s .wantE - 1;
+    }))))
 
 -- a task frame is followed by its vertices, then its edges; then another task or the end
 pub data Wanted : Type 0 where
@@ -151,7 +163,12 @@ atEnd ts n (l ∷ ls) = unreadable 7 n
 -- the lines from line n on, after what was read before
 abbrev pub readFrom : Begun → ℕ → List Line → Reading
 readFrom s n [] = unreadable 6 n
-readFrom s n (l ∷ ls) = elim (stepAt s (frameOf l)) [ on s′ ↦ readFrom s′ (suc n) ls | over ts ↦ atEnd ts (suc n) ls | wrong k ↦ unreadable k n ]
+readFrom s n (l ∷ ls) =
+    elim (stepAt s (frameOf l)) [
+      | on s′ ↦ readFrom s′ (suc n) ls
+      | over ts ↦ atEnd ts (suc n) ls
+      | wrong k ↦ unreadable k n
+    ]
 
 unfoldable pub read : List ℕ → Reading
 read text = readFrom nothing 1 (linesOf text)

@@ -28,7 +28,9 @@ places ts = placesFrom 0 ts
 
 unfoldable pub verdictAt : Table → ℕ → ℕ → Place → Verdict
 unfolding pathsOf walked
-verdictAt ts b work q = unlessRefused (firstRow (row9 ts (q .task) (q .vertex) ∷ row10 ts (q .task) (q .vertex) work ∷ [])) (walkedAt ts (q .task) (q .vertex) b)
+verdictAt ts b work q =
+    unlessRefused (firstRow (row9 ts (q .task) (q .vertex) ∷ row10 ts (q .task) (q .vertex) work ∷ []))
+    (walkedAt ts (q .task) (q .vertex) b)
 
 abbrev pub verdicts : Table → ℕ → ℕ → List Verdict
 verdicts ts b work = map (verdictAt ts b work) (places ts)
