@@ -1,6 +1,6 @@
 -- A whole table's four counts: they add up, and more budget never lowers the first two. Assumes nothing.
 use mathlib.Core.Path.{_≡_, refl, ap, ap₂, _∙_}
-use Prim.Native.Nat.{ℕ, zero, suc, _+_, _≤_}
+use Prim.Native.Nat.{ℕ, zero, suc, _+_, _≤_, _<_}
 use native.Mathlib.Nat.{le-refl}
 use native.Mathlib.Omega.{arith}
 use native.Mathlib.Decide.{decLt}
@@ -8,19 +8,19 @@ use mathlib.Core.Bool.{Bool, true, false}
 use mathlib.Core.Option.{Option, none, some}
 use mathlib.Core.List.{List, [], _∷_, map}
 use lib.ListN.{length, length-map, length-append}
-use lib.Dec.{T}
+use lib.Dec.{T, eqb, eqb→eq}
 use borrow.Author.Tests.{lt-ltb, le-ltb}
 use Rattle.meaning.specs.Lists.{pick, those, countFrom, below}
 use Rattle.meaning.specs.Table.{Task, Table, higher}
 use Rattle.meaning.specs.Groups.{count, witness}
 use Rattle.meaning.specs.Verdict.{Verdict, meets, misses, unfinished, refused, Listed, loadOf, topOf, decided, budgeted, walked, walkedAt, ownE, deadline}
 use Rattle.meaning.specs.Judge.{Row, row9, row10, firstRow, unlessRefused}
-use Rattle.meaning.specs.Whole.{Place, placesFrom, places, verdictAt, verdicts, isMeets, isMisses, isUnfinished, isRefused, countsOf}
+use Rattle.meaning.specs.Whole.{Place, placesFrom, places, verdictAt, verdicts, kindOf, ofKind, countsOf}
 use Rattle.meaning.specs.Demands.{vertexTotal}
 
 -- ---- the four add up
 
-one-kind : (vs : List Verdict) → length (those isMeets vs) + length (those isMisses vs) + length (those isUnfinished vs) + length (those isRefused vs) ≡ length vs
+one-kind : (vs : List Verdict) → length (ofKind 0 vs) + length (ofKind 1 vs) + length (ofKind 2 vs) + length (ofKind 3 vs) ≡ length vs
 one-kind [] = refl
 one-kind (meets c ∷ vs) = omega (arith, one-kind vs)
 one-kind (misses c ws ∷ vs) = omega (arith, one-kind vs)
@@ -71,21 +71,12 @@ kept-at ts work q b b′ h =
     kept-unless (firstRow (row9 ts (q .task) (q .vertex) ∷ row10 ts (q .task) (q .vertex) work ∷ [])) (walkedAt ts (q .task) (q .vertex) b) (walkedAt ts (q .task) (q .vertex) b′)
     (kept-walked (higher ts (q .task)) (ownE ts (q .task) (q .vertex)) (deadline ts (q .task) (q .vertex)) b b′ h)
 
--- a kind of verdict that more budget keeps
-abbrev Lasting : (Verdict → Bool) → Type 0
-Lasting f = (x y : Verdict) → Kept x y → T (f x) → T (f y)
-
-meets-last : Lasting isMeets
-meets-last (meets c) y k t = rw k tt
-meets-last (misses c cs) y k t = absurd t
-meets-last (unfinished b) y k t = absurd t
-meets-last (refused c n) y k t = absurd t
-
-misses-last : Lasting isMisses
-misses-last (meets c) y k t = absurd t
-misses-last (misses c cs) y k t = rw k tt
-misses-last (unfinished b) y k t = absurd t
-misses-last (refused c n) y k t = absurd t
+-- so a verdict of any other kind stays of its kind
+kept-kind : (n : ℕ) → n < 2 → (x y : Verdict) → Kept x y → T (eqb (kindOf x) n) → T (eqb (kindOf y) n)
+kept-kind n h (meets c) y k t = rw k t
+kept-kind n h (misses c ws) y k t = rw k t
+kept-kind n h (unfinished b) y k t = absurd (omega (arith, eqb→eq 2 n t))
+kept-kind n h (refused c place) y k t = rw k t
 
 pick-mono : (a b : Bool) (n m : ℕ) → (T a → T b) → n ≤ m → pick a (suc n) n ≤ pick b (suc m) m
 pick-mono true true n m f h = omega arith
@@ -100,15 +91,16 @@ those-count f x xs = go (f x)
     go true = refl
     go false = refl
 
-more-of : {A : Type 0} (k : Verdict → Bool) → Lasting k → (f g : A → Verdict) → ((a : A) → Kept (f a) (g a)) → (xs : List A) → length (those k (map f xs)) ≤ length (those k (map g xs))
-more-of k l f g h [] = le-refl 0
-more-of k l f g h (x ∷ xs) =
-    rw (those-count k (f x) (map f xs), those-count k (g x) (map g xs))
-    (pick-mono (k (f x)) (k (g x)) (length (those k (map f xs))) (length (those k (map g xs))) (l (f x) (g x) (h x)) (more-of k l f g h xs))
+more-of : {A : Type 0} (n : ℕ) → n < 2 → (f g : A → Verdict) → ((a : A) → Kept (f a) (g a)) → (xs : List A) → length (ofKind n (map f xs)) ≤ length (ofKind n (map g xs))
+more-of n l f g h [] = le-refl 0
+more-of n l f g h (x ∷ xs) =
+    let is : Verdict → Bool = λ v. eqb (kindOf v) n in
+    rw (those-count is (f x) (map f xs), those-count is (g x) (map g xs))
+    (pick-mono (is (f x)) (is (g x)) (length (ofKind n (map f xs))) (length (ofKind n (map g xs))) (kept-kind n l (f x) (g x) (h x)) (more-of n l f g h xs))
 
 -- more budget never lowers the first two counts
 pub meets-mono : (ts : Table) (work b b′ : ℕ) → b ≤ b′ → countsOf (verdicts ts b work) .meeting ≤ countsOf (verdicts ts b′ work) .meeting
-meets-mono ts work b b′ h = more-of isMeets meets-last (verdictAt ts b work) (verdictAt ts b′ work) (λ q. kept-at ts work q b b′ h) (places ts)
+meets-mono ts work b b′ h = more-of 0 (omega arith) (verdictAt ts b work) (verdictAt ts b′ work) (λ q. kept-at ts work q b b′ h) (places ts)
 
 pub misses-mono : (ts : Table) (work b b′ : ℕ) → b ≤ b′ → countsOf (verdicts ts b work) .missing ≤ countsOf (verdicts ts b′ work) .missing
-misses-mono ts work b b′ h = more-of isMisses misses-last (verdictAt ts b work) (verdictAt ts b′ work) (λ q. kept-at ts work q b b′ h) (places ts)
+misses-mono ts work b b′ h = more-of 1 (omega arith) (verdictAt ts b work) (verdictAt ts b′ work) (λ q. kept-at ts work q b b′ h) (places ts)

@@ -1,15 +1,15 @@
 -- The whole table's verdicts are those of its vertices, each judged with a witness area that is long enough. Assumes nothing.
 use mathlib.Core.Path.{_≡_, refl, sym, ap, subst, _∙_}
-use Prim.Native.Nat.{ℕ, suc, _+_, _-_, _*_, _≤_, _<_, zero-le}
+use Prim.Native.Nat.{ℕ, suc, _+_, _-_, _≤_, _<_}
 use native.Mathlib.Nat.{le-refl, le-trans, mul-le-mul}
 use native.Mathlib.Omega.{arith}
 use mathlib.Core.Bool.{Bool, true, false}
 use mathlib.Core.Logic.{_⊎_, inl, inr}
-use mathlib.Core.List.{List, [], _∷_, _++_, map, List·Memᴰ, List·Memᴰ·append-cases, List·Memᴰ·not-nil, Memᴰ·of-map}
+use mathlib.Core.List.{List, [], _∷_, map, List·Memᴰ, List·Memᴰ·append-cases, List·Memᴰ·not-nil, Memᴰ·of-map}
 use lib.ListN.{length, getD}
 use borrow.Author.Tests.{lt-ltb, le-ltb}
 use Rattle.meaning.specs.Lists.{below}
-use Rattle.meaning.specs.Bounds.{deskWitness, mostTasks, largestD}
+use Rattle.meaning.specs.Bounds.{deskWitness, largestD}
 use Rattle.meaning.specs.Table.{Task, Table, noTask, noVertex, taskAt, vertexAt}
 use Rattle.meaning.specs.Verdict.{deadline, walkedAt}
 use Rattle.meaning.specs.Areas.{witnessNeed}

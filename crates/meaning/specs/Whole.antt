@@ -1,13 +1,13 @@
 -- Judging a whole table. Assumes nothing.
 use Prim.Native.Nat.{ℕ, suc}
-use mathlib.Core.Bool.{Bool, true, false}
 use mathlib.Core.List.{List, [], _∷_, _++_, map}
-use lib.ListN.{length}
+use lib.ListN.{length, getD}
+use lib.Dec.{eqb}
 use Rattle.meaning.specs.Lists.{those, below, largest}
 use Rattle.meaning.specs.Table.{Task, Table}
 use Rattle.meaning.specs.Text.{Reading, readable, unreadable}
 use Rattle.meaning.specs.Paths.{pathsOf}
-use Rattle.meaning.specs.Verdict.{Verdict, meets, misses, unfinished, refused, walked, walkedAt}
+use Rattle.meaning.specs.Verdict.{Verdict, meets, misses, unfinished, refused, numbers, walked, walkedAt}
 use Rattle.meaning.specs.Areas.{workNeed, zeroed}
 use Rattle.meaning.specs.Judge.{row9, row10, firstRow, unlessRefused}
 
@@ -37,29 +37,12 @@ verdicts ts b work = map (verdictAt ts b work) (places ts)
 
 -- ---- how many meet, miss, are unfinished and are refused
 
-abbrev pub isMeets : Verdict → Bool
-isMeets (meets c) = true
-isMeets (misses c ws) = false
-isMeets (unfinished b) = false
-isMeets (refused k place) = false
+-- the desk's number: 0 meets, 1 misses, 2 unfinished, 3 refused
+abbrev pub kindOf : Verdict → ℕ
+kindOf x = getD (numbers x) 0 0
 
-abbrev pub isMisses : Verdict → Bool
-isMisses (meets c) = false
-isMisses (misses c ws) = true
-isMisses (unfinished b) = false
-isMisses (refused k place) = false
-
-abbrev pub isUnfinished : Verdict → Bool
-isUnfinished (meets c) = false
-isUnfinished (misses c ws) = false
-isUnfinished (unfinished b) = true
-isUnfinished (refused k place) = false
-
-abbrev pub isRefused : Verdict → Bool
-isRefused (meets c) = false
-isRefused (misses c ws) = false
-isRefused (unfinished b) = false
-isRefused (refused k place) = true
+abbrev pub ofKind : ℕ → List Verdict → List Verdict
+ofKind n xs = those (λ (x : Verdict). eqb (kindOf x) n) xs
 
 pub record Counts : Type 0 where
   pub meeting : ℕ
@@ -70,10 +53,10 @@ pub record Counts : Type 0 where
 abbrev pub countsOf : List Verdict → Counts
 countsOf xs =
     record {
-      meeting = length (those isMeets xs);
-      missing = length (those isMisses xs);
-      unfinishing = length (those isUnfinished xs);
-      refusing = length (those isRefused xs);
+      meeting = length (ofKind 0 xs);
+      missing = length (ofKind 1 xs);
+      unfinishing = length (ofKind 2 xs);
+      refusing = length (ofKind 3 xs);
     }
 
 -- ---- the answer for a text, and the work area afterwards
