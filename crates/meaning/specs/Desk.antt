@@ -26,9 +26,13 @@ four n = two (n / 65536) ++ two n
 abbrev pub digit : ℕ → ℕ
 digit n = pick (ltb n 10) (48 + n) (87 + n)
 
+-- a byte as its two digits
+abbrev pub digits : ℕ → List ℕ
+digits b = digit (b / 16) ∷ digit (b % 16) ∷ []
+
 -- a frame a line
 abbrev pub line : List ℕ → List ℕ
-line f = gather (λ (b : ℕ). digit (b / 16) ∷ digit (b % 16) ∷ []) f ++ (lineFeed ∷ [])
+line f = gather digits f ++ (lineFeed ∷ [])
 
 -- ---- frames
 

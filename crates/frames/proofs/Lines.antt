@@ -1,0 +1,85 @@
+-- Writing into a lent area, byte by byte and line by line. Assumes nothing.
+use mathlib.Core.Path.{_≡_, refl, sym, ap, ap₂, subst, _∙_}
+use Prim.Native.Nat.{ℕ, suc, _+_, _*_, _/_, _%_, _≤_, _<_}
+use native.Mathlib.Nat.{add-zero, add-suc}
+use native.Mathlib.Numerals.{add-one}
+use native.Mathlib.Omega.{arith}
+use mathlib.Core.List.{List, [], _∷_, _++_}
+use lib.ListN.{length, set, take, getD, length-append}
+use lib.Seq.{sets, length-sets, take-suc, take-all}
+use Rattle.meaning.specs.Lists.{gather}
+use Rattle.meaning.specs.Text.{lineFeed}
+use Rattle.meaning.specs.Desk.{digit, digits, line}
+use Rattle.meaning.proofs.Lists.{gather-append}
+use Rattle.frames.specs.Lines.{Wrote}
+
+-- one run of stores and then another
+sets-append : (l : List ℕ) (i : ℕ) (xs ys : List ℕ) → sets l i (xs ++ ys) ≡ sets (sets l i xs) (i + length xs) ys
+sets-append l i [] ys = ap (λ (k : ℕ). sets l k ys) (sym (add-zero i))
+sets-append l i (x ∷ xs) ys =
+    let e : suc i + length xs ≡ i + suc (length xs) = omega arith in
+    sets-append (set l i x) (suc i) xs ys ∙ ap (λ (k : ℕ). sets (sets (set l i x) (suc i) xs) k ys) e
+
+pub wrote-none : (out : List ℕ) (at : ℕ) → Wrote [] out at out at
+wrote-none out at = record { cells = refl; end = omega arith }
+
+pub wrote-then : (xs ys : List ℕ) {out mid after : List ℕ} {at next last : ℕ} → Wrote xs out at mid next → Wrote ys mid next after last → Wrote (xs ++ ys) out at after last
+wrote-then xs ys {out} {mid} {after} {at} {next} {last} a b =
+    record {
+      cells = b .cells ∙ ap₂ (λ (l : List ℕ) (k : ℕ). sets l k ys) (a .cells) (a .end) ∙ sym (sets-append out at xs ys);
+      end = b .end ∙ rw length-append (omega (arith, a .end));
+    }
+
+pub wrote-length : {xs out after : List ℕ} {at next : ℕ} → Wrote xs out at after next → length after ≡ length out
+wrote-length {xs} {out} {at} w = ap length (w .cells) ∙ length-sets out at xs
+
+-- two stores
+pub wrote-byte : (out : List ℕ) (at b x y : ℕ) → x ≡ digit (b / 16) → y ≡ digit (b % 16) → Wrote (digits b) out at (set (set out at x) (at + 1) y) (at + 2)
+wrote-byte out at b x y p q =
+    record {
+      cells = ap₂ (λ (u v : ℕ). set (set out at u) (at + 1) v) p q ∙ ap (λ (k : ℕ). set (set out at (digit (b / 16))) k (digit (b % 16))) (add-one at);
+      end = refl;
+    }
+
+-- ---- bytes in turn
+
+digits-length : (xs : List ℕ) → length (gather digits xs) ≡ 2 * length xs
+digits-length [] = refl
+digits-length (x ∷ xs) = omega (arith, digits-length xs)
+
+-- how far the digits reach
+pub digits-end : (f : List ℕ) {out after : List ℕ} {at next : ℕ} → Wrote (gather digits f) out at after next → next ≡ at + 2 * length f
+digits-end f {at = at} w = w .end ∙ ap (λ (k : ℕ). at + k) (digits-length f)
+
+-- and then the line feed
+pub wrote-line : (f : List ℕ) {out mid : List ℕ} {at next : ℕ} → Wrote (gather digits f) out at mid next → Wrote (line f) out at (set mid next lineFeed) (next + 1)
+wrote-line f {mid = mid} {next = next} w = wrote-then (gather digits f) (lineFeed ∷ []) w (record { cells = refl; end = refl })
+
+-- after i of the bytes
+pub record Putting (bytes out : List ℕ) (at : ℕ) (now : List ℕ) (next i : ℕ) : Type 0 where
+  pub low : i ≤ length bytes
+  pub room : at + 2 * length bytes ≤ length out
+  pub place : next ≡ at + 2 * i
+  pub same : length now ≡ length out
+  pub wrote : Wrote (gather digits (take i bytes)) out at now next
+
+pub putting-none : (bytes out : List ℕ) (at : ℕ) → at + 2 * length bytes ≤ length out → Putting bytes out at out at 0
+putting-none bytes out at h = record { low = omega arith; room = h; place = omega arith; same = refl; wrote = wrote-none out at }
+
+pub putting-more : {bytes out now after : List ℕ} {at next i last : ℕ} → Putting bytes out at now next i → i < length bytes
+    → Wrote (digits (getD bytes i 0)) now next after last → Putting bytes out at after last (i + 1)
+putting-more {bytes} {out} {now} {after} {at} {next} {i} {last} p h w =
+    let place = p .place in
+    record {
+      low = omega arith;
+      room = p .room;
+      place = w .end ∙ omega arith;
+      same = wrote-length w ∙ p .same;
+      wrote = rw more (wrote-then (gather digits (take i bytes)) (digits (getD bytes i 0)) (p .wrote) w);
+    }
+  where
+    more : gather digits (take (i + 1) bytes) ≡ gather digits (take i bytes) ++ digits (getD bytes i 0)
+    more = rw (add-one i, take-suc bytes i 0 h) (gather-append digits (take i bytes) (getD bytes i 0 ∷ []))
+
+pub putting-all : {bytes out now : List ℕ} {at next i : ℕ} → Putting bytes out at now next i → length bytes ≤ i → Wrote (gather digits bytes) out at now next
+putting-all {bytes} {out} {now} {at} {next} {i} p h = subst (λ (l : List ℕ). Wrote (gather digits l) out at now next) (take-all i bytes h) (p .wrote)

@@ -1,0 +1,77 @@
+// "Output is frames: 10, task, vertex, verdict, 4 bytes count (or refusal number) [..]; after a miss, one frame a higher task: 11, task, length,
+// vertices; last 1f and the four counts. A refused text or input gives only 1e, number, line in 2 bytes."
+//
+// Each function writes lines into a lent area, from a place on, and gives the place behind them.
+mod line;
+mod path;
+use kinds::RefusedAt;
+use kinds::TaskNumber;
+use kinds::Verdict;
+use kinds::VertexNumber;
+use line::put_line;
+ghost use mathlib.Core.Path.{_≡_};
+ghost use Prim.Native.Nat.{_+_, _*_, _≤_, _<_};
+ghost use lib.ListN.{length, getD};
+ghost use Rattle.meaning.specs.Lists.{gather};
+ghost use Rattle.meaning.specs.Desk.{line, verdictFrame, countsFrame, refusalFrame, pathFrames};
+ghost use Rattle.kinds.specs.Numbers.{refusalNumber, verdictNumbers};
+ghost use Rattle.frames.specs.Lines.{Wrote};
+
+// A vertex's verdict.
+pub fn verdict_line(
+    out: &mut [u8],
+    at: usize,
+    task: TaskNumber,
+    vertex: VertexNumber,
+    verdict: Verdict,
+) -> usize
+    requires { ⌜ at + 17 ≤ length (now out) ⌝ }
+    ensures { λ r. ⌜ Wrote (line (verdictFrame (record { task = task .0; vertex = vertex .0 }) (getD (verdictNumbers verdict) 0 0) (getD (verdictNumbers verdict) 1 0))) (now (out .entry)) at (now (out .exit)) r ⌝ }
+{
+    let kind = kinds::verdict_number(verdict);
+    let count = kinds::verdict_value(verdict);
+    let high = count / 65536;
+    let frame = [
+        16u8,
+        task.0,
+        vertex.0,
+        kind,
+        (high / 256 % 256) as u8,
+        (high % 256) as u8,
+        (count / 256 % 256) as u8,
+        (count % 256) as u8,
+    ];
+    put_line(out, at, &frame)
+}
+
+// The four counts.
+pub fn counts_line(
+    out: &mut [u8],
+    at: usize,
+    meeting: u8,
+    missing: u8,
+    unfinishing: u8,
+    refusing: u8,
+) -> usize
+    requires { ⌜ at + 11 ≤ length (now out) ⌝ }
+    ensures { λ r. ⌜ Wrote (line (countsFrame (record { meeting = meeting; missing = missing; unfinishing = unfinishing; refusing = refusing }))) (now (out .entry)) at (now (out .exit)) r ⌝ }
+{
+    let frame = [31u8, meeting, missing, unfinishing, refusing];
+    put_line(out, at, &frame)
+}
+
+// A refused text or input.
+pub fn refusal_line(out: &mut [u8], at: usize, refused: RefusedAt) -> usize
+    requires { ⌜ at + 9 ≤ length (now out) ⌝ }
+    ensures { λ r. ⌜ Wrote (line (refusalFrame (refusalNumber (refused .refusal)) (refused .place))) (now (out .entry)) at (now (out .exit)) r ⌝ }
+{
+    let refusal = refused.refusal;
+    let place = refused.place;
+    let frame = [
+        30u8,
+        kinds::refusal_number(refusal),
+        (place / 256 % 256) as u8,
+        (place % 256) as u8,
+    ];
+    put_line(out, at, &frame)
+}
