@@ -9,7 +9,8 @@ use lib.ListN.{length, set, take, getD, length-append}
 use lib.Seq.{sets, length-sets, take-suc, take-all}
 use Rattle.meaning.specs.Lists.{gather}
 use Rattle.meaning.specs.Text.{lineFeed}
-use Rattle.meaning.specs.Desk.{digit, digits, line}
+use Rattle.meaning.specs.Paths.{Path}
+use Rattle.meaning.specs.Desk.{digit, digits, line, pathFrame}
 use Rattle.meaning.proofs.Lists.{gather-append}
 use Rattle.frames.specs.Lines.{Wrote}
 
@@ -40,6 +41,10 @@ wrote-byte out at b x y p q =
       cells = ap₂ (λ (u v : ℕ). set (set out at u) (at + 1) v) p q ∙ ap (λ (k : ℕ). set (set out at (digit (b / 16))) k (digit (b % 16))) (add-one at);
       end = refl;
     }
+
+-- a number that fits a byte is its own remainder
+pub wrote-low : {n : ℕ} {out after : List ℕ} {at next : ℕ} → n < 256 → Wrote (digits (n % 256)) out at after next → Wrote (digits n) out at after next
+wrote-low {n} {out} {after} {at} {next} h w = let e : n % 256 ≡ n = omega arith in subst (λ (b : ℕ). Wrote (digits b) out at after next) e w
 
 -- ---- bytes in turn
 
@@ -83,3 +88,9 @@ putting-more {bytes} {out} {now} {after} {at} {next} {i} {last} p h w =
 
 pub putting-all : {bytes out now : List ℕ} {at next i : ℕ} → Putting bytes out at now next i → length bytes ≤ i → Wrote (gather digits bytes) out at now next
 putting-all {bytes} {out} {now} {at} {next} {i} p h = subst (λ (l : List ℕ). Wrote (gather digits l) out at now next) (take-all i bytes h) (p .wrote)
+
+-- ---- a path's frame: its head, then its vertices
+
+pub head-then : (i : ℕ) (w : Path) {out mid after : List ℕ} {at next last : ℕ} → Wrote (gather digits (17 ∷ i ∷ length w ∷ [])) out at mid next → Wrote (gather digits w) mid next after last
+    → Wrote (gather digits (pathFrame i w)) out at after last
+head-then i w a b = wrote-then (gather digits (17 ∷ i ∷ length w ∷ [])) (gather digits w) a b

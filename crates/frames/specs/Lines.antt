@@ -1,11 +1,30 @@
--- What writing into a lent area promises. Assumes nothing.
+-- What writing into a lent area promises, and the paths that cells hold. Assumes nothing.
 use mathlib.Core.Path.{_≡_}
-use Prim.Native.Nat.{ℕ, _+_}
-use mathlib.Core.List.{List}
-use lib.ListN.{length}
+use Prim.Native.Nat.{ℕ, zero, suc, _+_, _≤_, _<_}
+use mathlib.Core.List.{List, [], _∷_}
+use lib.ListN.{length, take, drop, getD}
 use lib.Seq.{sets}
+use Rattle.meaning.specs.Paths.{Path}
 
 -- the bytes stand in the area from a place on, all else is unchanged, and the next place is behind them
 pub record Wrote (bytes : List ℕ) (before : List ℕ) (at : ℕ) (after : List ℕ) (next : ℕ) : Type 0 where
   pub cells : after ≡ sets before at bytes
   pub end : next ≡ at + length bytes
+
+-- ---- cells that hold paths, each with its length before it
+
+-- each number fits a byte
+abbrev pub Bytes : List ℕ → Type 0
+Bytes xs = (i : ℕ) → getD xs i 0 < 256
+
+-- the first h paths
+abbrev pub cellPaths : ℕ → List ℕ → List Path
+cellPaths zero cs = []
+cellPaths (suc h) [] = []
+cellPaths (suc h) (m ∷ cs) = take m cs ∷ cellPaths h (drop m cs)
+
+-- there are h of them, with lengths and vertices that fit a byte
+abbrev pub WholePaths : ℕ → List ℕ → Type 0
+WholePaths zero cs = Unit {0}
+WholePaths (suc h) [] = ⊥
+WholePaths (suc h) (m ∷ cs) = ((m ≤ length cs) × (m ≤ 255) × Bytes (take m cs)) × WholePaths h (drop m cs)

@@ -1,1 +1,58 @@
-// The paths of a miss, out of the witness area: per higher task its path's length and vertices.
+// The paths of a miss, out of the witness area: per higher task in order, the path's length and vertices.
+use crate::line::put_byte;
+use crate::line::put_bytes;
+ghost use mathlib.Core.Path.{_≡_};
+ghost use Prim.Native.Nat.{_+_, _*_, _≤_, _<_};
+ghost use lib.ListN.{length};
+ghost use Rattle.meaning.specs.Lists.{gather};
+ghost use Rattle.meaning.specs.Desk.{digits, line, pathFrame, pathFrames};
+ghost use Rattle.frames.specs.Lines.{Wrote, Bytes, WholePaths, cellPaths};
+
+fn wide(x: u16) -> usize
+    ensures { λ r. ⌜ r ≡ x ⌝ }
+{
+    x as usize
+}
+
+fn put_vertices(out: &mut [u8], at: usize, vertices: &[u16]) -> usize
+    requires { ⌜ (at + 2 * length (now vertices) ≤ length (now out)) × Bytes (now vertices) ⌝ }
+    ensures { λ r. ⌜ Wrote (gather digits (now (vertices .entry))) (now (out .entry)) at (now (out .exit)) r ⌝ }
+{
+    let mut next = at;
+    let mut i = 0;
+    while i < vertices.len() {
+        next = put_byte(out, next, (vertices[i] % 256) as u8);
+        i += 1;
+    }
+    next
+}
+
+// One task's path.
+fn path_line(out: &mut [u8], at: usize, task: u8, path: &[u16]) -> usize
+    requires { ⌜ (at + 2 * length (now path) + 6 < length (now out)) × (length (now path) ≤ 255) × Bytes (now path) ⌝ }
+    ensures { λ r. ⌜ Wrote (line (pathFrame task (now (path .entry)))) (now (out .entry)) at (now (out .exit)) r ⌝ }
+{
+    let head = [17u8, task, path.len() as u8];
+    let behind = put_bytes(out, at, &head);
+    let next = put_vertices(out, behind, path);
+    out[next] = 10;
+    next + 1
+}
+
+// The paths of h higher tasks, one line each.
+pub fn path_lines(out: &mut [u8], at: usize, cells: &[u16], h: usize) -> usize
+    requires { ⌜ (h ≤ 255) × WholePaths h (now cells) × (at + length (gather line (pathFrames 0 (cellPaths h (now cells)))) ≤ length (now out)) ⌝ }
+    ensures { λ r. ⌜ Wrote (gather line (pathFrames 0 (cellPaths h (now (cells .entry))))) (now (out .entry)) at (now (out .exit)) r ⌝ }
+{
+    let mut next = at;
+    let mut k = 0;
+    let mut i = 0;
+    while i < h {
+        let from = k + 1;
+        let to = from + wide(cells[k]);
+        next = path_line(out, next, i as u8, &cells[from..to]);
+        k = to;
+        i += 1;
+    }
+    next
+}
