@@ -1,7 +1,7 @@
 -- Writing into a lent area, byte by byte and line by line. Assumes nothing.
 use mathlib.Core.Path.{_≡_, refl, sym, ap, ap₂, subst, _∙_}
 use Prim.Native.Nat.{ℕ, suc, _+_, _*_, _/_, _%_, _≤_, _<_}
-use native.Mathlib.Nat.{add-zero, add-suc}
+use native.Mathlib.Nat.{add-zero}
 use native.Mathlib.Numerals.{add-one}
 use native.Mathlib.Omega.{arith}
 use mathlib.Core.List.{List, [], _∷_, _++_}
@@ -51,6 +51,9 @@ wrote-low {n} {out} {after} {at} {next} h w = let e : n % 256 ≡ n = omega arit
 digits-length : (xs : List ℕ) → length (gather digits xs) ≡ 2 * length xs
 digits-length [] = refl
 digits-length (x ∷ xs) = omega (arith, digits-length xs)
+
+pub line-length : (f : List ℕ) → length (line f) ≡ 2 * length f + 1
+line-length f = rw length-append (omega (arith, digits-length f))
 
 -- how far the digits reach
 pub digits-end : (f : List ℕ) {out after : List ℕ} {at next : ℕ} → Wrote (gather digits f) out at after next → next ≡ at + 2 * length f

@@ -4,6 +4,7 @@
 // Each function writes lines into a lent area, from a place on, and gives the place behind them.
 mod line;
 mod path;
+
 use kinds::RefusedAt;
 use kinds::TaskNumber;
 use kinds::Verdict;

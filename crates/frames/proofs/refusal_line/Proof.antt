@@ -5,36 +5,25 @@ use Rattle.frames.specs.Lines.{Wrote}
 use borrow.Author.Needs.{needs}
 use Rattle.frames.proofs.refusal_line.Statement.{statement}
 use Rattle.frames.proofs.refusal_line.Tie as tie
-use Rattle.frames.proofs.refusal_line.Reads as reads
-use Rattle.frames.proofs.refusal_line.Lts as lts
-use Rattle.frames.proofs.line.put_line.Reads as put-line-reads
-use Rattle.kinds.proofs.refusal_number.Reads as refusal-number-reads
 
--- src/lib.rt:72:9
 refusal-number-requires : tie.Need-refusal-number-requires
 refusal-number-requires c κs = search needs
 
--- src/lib.rt:73:9
 cast-t10 : tie.Need-cast-t10
 cast-t10 c = search needs
 
--- src/lib.rt:74:9
 cast-t12 : tie.Need-cast-t12
 cast-t12 c = search needs
 
--- src/lib.rt:76:23
 slice-aggregate-put-line : tie.Need-slice-aggregate-put-line
 slice-aggregate-put-line c = search needs
 
--- src/lib.rt:76:5
 put-line-requires : tie.Need-put-line-requires
 put-line-requires c κs = search needs
 
--- src/lib.rt:64:1
 same-length : tie.Need-same-length
 same-length c = search needs
 
--- src/lib.rt:64:1
 returns : tie.Need-returns
 returns c = subst (λ (k : ℕ). Wrote (line (refusalFrame k ((c .before .before .before .before .before .before .before .args .refused .place)))) (c .before .before .before .before .before .before .before .args .out .now) (c .before .before .before .before .before .before .before .args .at) (c .before .before .put-line .last .0) (c .before .before .put-line .result)) (c .before .before .before .before .before .refusal-number .ensures) (c .before .before .put-line .ensures)
 

@@ -2,22 +2,16 @@ use borrow.Author.Tests.{lt-ltb, le-ltb}
 use borrow.Author.Needs.{needs}
 use Rattle.frames.proofs.line.digit.Statement.{statement}
 use Rattle.frames.proofs.line.digit.Tie as tie
-use Rattle.frames.proofs.line.digit.Reads as reads
-use Rattle.frames.proofs.line.digit.Lts as lts
 
--- src/lib.rt:16:16
 add-result : tie.Need-add-result
 add-result c = search needs
 
--- src/lib.rt:16:9
 returns : tie.Need-returns
 returns c = rw (lt-ltb (c .before .args .n) 10 (c .if1 .taken))
 
--- src/lib.rt:18:5
 add-result-2 : tie.Need-add-result-2
 add-result-2 c = search needs
 
--- src/lib.rt:11:1
 returns-2 : tie.Need-returns-2
 returns-2 c = rw (le-ltb (c .before .args .n) 10 (c .if1 .left))
 

@@ -4,9 +4,6 @@ use borrow.Author.Needs.{needs}
 use Rattle.frames.proofs.Lines.{Putting, putting-none, putting-more, putting-all}
 use Rattle.frames.proofs.line.put_bytes.Statement.{statement}
 use Rattle.frames.proofs.line.put_bytes.Tie as tie
-use Rattle.frames.proofs.line.put_bytes.Reads as reads
-use Rattle.frames.proofs.line.put_bytes.Lts as lts
-use Rattle.frames.proofs.line.put_byte.Reads as put-byte-reads
 
 abbrev Inv-loop : tie.InvT-loop
 Inv-loop out₀ at bytes next₀ i₀ out next i = Putting bytes out₀ at out next i
@@ -14,35 +11,27 @@ Inv-loop out₀ at bytes next₀ i₀ out next i = Putting bytes out₀ at out n
 abbrev μ-loop : tie.MeasureT-loop
 μ-loop out₀ at bytes next₀ i₀ out next i = length bytes - i
 
--- src/line.rt:34:5
 loop-holds : tie.Need-loop-holds Inv-loop μ-loop
 loop-holds c = putting-none _ _ _ (c .before .before .pre)
 
--- src/line.rt:35:36
 shared-slice-read-put-byte : tie.Need-shared-slice-read-put-byte Inv-loop μ-loop
 shared-slice-read-put-byte c = search needs
 
--- src/line.rt:35:9
 put-byte-requires : tie.Need-put-byte-requires Inv-loop μ-loop
 put-byte-requires c κs = search needs
 
--- src/line.rt:36:9
 add-i : tie.Need-add-i Inv-loop μ-loop
 add-i c = search needs
 
--- src/line.rt:34:5
 loop-less : tie.Need-loop-less Inv-loop μ-loop
 loop-less c = search needs
 
--- src/line.rt:34:5
 loop-again : tie.Need-loop-again Inv-loop μ-loop
 loop-again c = putting-more (c .before .before .before .before .before .before .loop .inv) (search needs) (c .before .before .put-byte .ensures)
 
--- src/line.rt:28:1
 same-length : tie.Need-same-length Inv-loop μ-loop
 same-length c = search needs
 
--- src/line.rt:28:1
 returns : tie.Need-returns Inv-loop μ-loop
 returns c = putting-all (c .before .loop .inv) (search needs)
 

@@ -4,40 +4,28 @@ use Rattle.frames.proofs.Lines.{digits-end, wrote-length, wrote-line, h
 use borrow.Author.Needs.{needs}
 use Rattle.frames.proofs.path.path_line.Statement.{statement}
 use Rattle.frames.proofs.path.path_line.Tie as tie
-use Rattle.frames.proofs.path.path_line.Reads as reads
-use Rattle.frames.proofs.path.path_line.Lts as lts
-use Rattle.frames.proofs.line.put_bytes.Reads as put-bytes-reads
-use Rattle.frames.proofs.path.put_vertices.Reads as put-vertices-reads
 
--- src/path.rt:35:29
 cast-t9 : tie.Need-cast-t9
 cast-t9 c = search needs
 
--- src/path.rt:36:37
 slice-aggregate-put-bytes : tie.Need-slice-aggregate-put-bytes
 slice-aggregate-put-bytes c = search needs
 
--- src/path.rt:36:9
 put-bytes-requires : tie.Need-put-bytes-requires
 put-bytes-requires c κs = search needs
 
--- src/path.rt:37:9
 put-vertices-requires : tie.Need-put-vertices-requires
 put-vertices-requires c κs = search needs
 
--- src/path.rt:38:5
 slice-write-out : tie.Need-slice-write-out
 slice-write-out c = let w = head-then (c .before .before .before .before .before .before .before .before .before .before .before .args .task) (c .before .before .before .before .before .before .before .before .before .before .before .args .path .now) (c .before .before .before .before .before .before .put-bytes .ensures) (c .before .before .put-vertices .ensures) in omega (arith, digits-end (pathFrame (c .before .before .before .before .before .before .before .before .before .before .before .args .task) (c .before .before .before .before .before .before .before .before .before .before .before .args .path .now)) w, wrote-length w)
 
--- src/path.rt:39:5
 add-result : tie.Need-add-result
 add-result c = let w = head-then (c .before .before .before .before .before .before .before .before .before .before .before .args .task) (c .before .before .before .before .before .before .before .before .before .before .before .args .path .now) (c .before .before .before .before .before .before .put-bytes .ensures) (c .before .before .put-vertices .ensures) in omega (arith, digits-end (pathFrame (c .before .before .before .before .before .before .before .before .before .before .before .args .task) (c .before .before .before .before .before .before .before .before .before .before .before .args .path .now)) w)
 
--- src/path.rt:31:1
 same-length : tie.Need-same-length
 same-length c = wrote-length (wrote-line (pathFrame (c .before .before .before .before .before .before .before .before .before .before .before .args .task) (c .before .before .before .before .before .before .before .before .before .before .before .args .path .now)) (head-then (c .before .before .before .before .before .before .before .before .before .before .before .args .task) (c .before .before .before .before .before .before .before .before .before .before .before .args .path .now) (c .before .before .before .before .before .before .put-bytes .ensures) (c .before .before .put-vertices .ensures)))
 
--- src/path.rt:31:1
 returns : tie.Need-returns
 returns c = wrote-line (pathFrame (c .before .before .before .before .before .before .before .before .before .before .before .args .task) (c .before .before .before .before .before .before .before .before .before .before .before .args .path .now)) (head-then (c .before .before .before .before .before .before .before .before .before .before .before .args .task) (c .before .before .before .before .before .before .before .before .before .before .before .args .path .now) (c .before .before .before .before .before .before .put-bytes .ensures) (c .before .before .put-vertices .ensures))
 

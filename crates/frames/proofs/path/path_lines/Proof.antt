@@ -1,83 +1,66 @@
+use Prim.Native.Nat.{_-_}
+use borrow.Author.Needs.{needs}
+use native.Mathlib.Omega.{arith}
+use Rattle.frames.proofs.PathLines.{Pathing, pathing-none, ahead, path-asks, pathing-more, pathing-all}
 use Rattle.frames.proofs.path.path_lines.Statement.{statement}
 use Rattle.frames.proofs.path.path_lines.Tie as tie
-use Rattle.frames.proofs.path.path_lines.Reads as reads
-use Rattle.frames.proofs.path.path_lines.Lts as lts
-use Rattle.frames.proofs.path.path_line.Reads as path-line-reads
-use Rattle.frames.proofs.path.wide.Reads as wide-reads
 
 abbrev Inv-loop : tie.InvT-loop
-Inv-loop out₀ at cells h next₀ k₀ i₀ out next k i = ?
+Inv-loop out₀ at cells h next₀ k₀ i₀ out next k i = Pathing h cells out₀ at out next k i
 
 abbrev μ-loop : tie.MeasureT-loop
-μ-loop out₀ at cells h next₀ k₀ i₀ out next k i = ?
+μ-loop out₀ at cells h next₀ k₀ i₀ out next k i = h - i
 
--- src/path.rt:50:5
 loop-holds : tie.Need-loop-holds Inv-loop μ-loop
-loop-holds c = ?
+loop-holds c = pathing-none _ _ _ _ ((c .before .before .pre) .0) ((c .before .before .pre) .1) ((c .before .before .pre) .2)
 
--- src/path.rt:51:20
 add-from : tie.Need-add-from Inv-loop μ-loop
-add-from c = ?
+add-from c = let a = ahead (c .before .loop .inv) (search needs) in omega (arith, a .inside, a .long)
 
--- src/path.rt:52:30
 mul-wide : tie.Need-mul-wide Inv-loop μ-loop
-mul-wide c = ?
+mul-wide c = let a = ahead (c .before .loop .inv) (search needs) in omega (arith, a .inside, a .long)
 
--- src/path.rt:52:30
 shared-slice-read-wide : tie.Need-shared-slice-read-wide Inv-loop μ-loop
-shared-slice-read-wide c = ?
+shared-slice-read-wide c = let a = ahead (c .before .before .loop .inv) (search needs) in omega (arith, a .inside, a .long)
 
--- src/path.rt:52:25
 wide-requires : tie.Need-wide-requires Inv-loop μ-loop
-wide-requires c κs = ?
+wide-requires c κs = search needs
 
--- src/path.rt:52:18
 add-to : tie.Need-add-to Inv-loop μ-loop
-add-to c = ?
+add-to c = let a = ahead (c .before .before .before .loop .inv) (search needs) in omega (arith, a .inside, a .long, (c .wide .ensures))
 
--- src/path.rt:53:37
 cast-path-line : tie.Need-cast-path-line Inv-loop μ-loop
-cast-path-line c = ?
+cast-path-line c = search needs
 
--- src/path.rt:53:46
 mul-path-line : tie.Need-mul-path-line Inv-loop μ-loop
-mul-path-line c = ?
+mul-path-line c = let a = ahead (c .before .before .before .before .loop .inv) (search needs) in omega (arith, a .inside, a .long)
 
--- src/path.rt:53:46
 sub-path-line : tie.Need-sub-path-line Inv-loop μ-loop
-sub-path-line c = ?
+sub-path-line c = let a = ahead (c .before .before .before .before .loop .inv) (search needs) in omega (arith, a .inside, a .long)
 
--- src/path.rt:53:46
 part-path-line-start : tie.Need-part-path-line-start Inv-loop μ-loop
-part-path-line-start c = ?
+part-path-line-start c = let a = ahead (c .before .before .before .before .loop .inv) (search needs) in omega (arith, a .inside, a .long)
 
--- src/path.rt:53:46
 part-path-line-end : tie.Need-part-path-line-end Inv-loop μ-loop
-part-path-line-end c = ?
+part-path-line-end c = let a = ahead (c .before .before .before .before .loop .inv) (search needs) in omega (arith, a .inside, a .long, (c .before .wide .ensures))
 
--- src/path.rt:53:9
 path-line-requires : tie.Need-path-line-requires Inv-loop μ-loop
-path-line-requires c κs = ?
+path-line-requires c κs = path-asks (c .before .before .before .before .before .loop .inv) (search needs) (c .before .before .wide .result) (c .before .before .wide .ensures)
 
--- src/path.rt:55:9
 add-i : tie.Need-add-i Inv-loop μ-loop
-add-i c = ?
+add-i c = search needs
 
--- src/path.rt:50:5
 loop-less : tie.Need-loop-less Inv-loop μ-loop
-loop-less c = ?
+loop-less c = search needs
 
--- src/path.rt:50:5
 loop-again : tie.Need-loop-again Inv-loop μ-loop
-loop-again c = ?
+loop-again c = pathing-more (c .before .before .before .before .before .before .before .before .loop .inv) (search needs) (c .before .before .before .before .before .wide .result) (c .before .before .before .before .before .wide .ensures) (c .before .before .path-line .ensures)
 
--- src/path.rt:43:1
 same-length : tie.Need-same-length Inv-loop μ-loop
-same-length c = ?
+same-length c = (c .before .loop .inv) .same
 
--- src/path.rt:43:1
 returns : tie.Need-returns Inv-loop μ-loop
-returns c = ?
+returns c = pathing-all (c .before .loop .inv) (search needs)
 
 pub path-lines-spec : {M : Type 1} → statement M
 path-lines-spec =

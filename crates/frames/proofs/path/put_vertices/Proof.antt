@@ -4,9 +4,6 @@ use borrow.Author.Needs.{needs}
 use Rattle.frames.proofs.Lines.{Putting, putting-none, putting-more, putting-all, wrote-low}
 use Rattle.frames.proofs.path.put_vertices.Statement.{statement}
 use Rattle.frames.proofs.path.put_vertices.Tie as tie
-use Rattle.frames.proofs.path.put_vertices.Reads as reads
-use Rattle.frames.proofs.path.put_vertices.Lts as lts
-use Rattle.frames.proofs.line.put_byte.Reads as put-byte-reads
 
 abbrev Inv-loop : tie.InvT-loop
 Inv-loop out₀ at vertices next₀ i₀ out next i = Putting vertices out₀ at out next i
@@ -14,43 +11,33 @@ Inv-loop out₀ at vertices next₀ i₀ out next i = Putting vertices out₀ at
 abbrev μ-loop : tie.MeasureT-loop
 μ-loop out₀ at vertices next₀ i₀ out next i = length vertices - i
 
--- src/path.rt:23:5
 loop-holds : tie.Need-loop-holds Inv-loop μ-loop
 loop-holds c = putting-none _ _ _ ((c .before .before .pre) .0)
 
--- src/path.rt:24:37
 mul-put-byte : tie.Need-mul-put-byte Inv-loop μ-loop
 mul-put-byte c = search needs
 
--- src/path.rt:24:37
 shared-slice-read-put-byte : tie.Need-shared-slice-read-put-byte Inv-loop μ-loop
 shared-slice-read-put-byte c = search needs
 
--- src/path.rt:24:36
 cast-put-byte : tie.Need-cast-put-byte Inv-loop μ-loop
 cast-put-byte c = search needs
 
--- src/path.rt:24:9
 put-byte-requires : tie.Need-put-byte-requires Inv-loop μ-loop
 put-byte-requires c κs = search needs
 
--- src/path.rt:25:9
 add-i : tie.Need-add-i Inv-loop μ-loop
 add-i c = search needs
 
--- src/path.rt:23:5
 loop-less : tie.Need-loop-less Inv-loop μ-loop
 loop-less c = search needs
 
--- src/path.rt:23:5
 loop-again : tie.Need-loop-again Inv-loop μ-loop
 loop-again c = putting-more (c .before .before .before .before .before .before .loop .inv) (search needs) (wrote-low ((c .before .before .before .before .before .before .before .before .before .pre) .1 (c .before .before .before .before .before .before .loop .i)) (c .before .before .put-byte .ensures))
 
--- src/path.rt:17:1
 same-length : tie.Need-same-length Inv-loop μ-loop
 same-length c = search needs
 
--- src/path.rt:17:1
 returns : tie.Need-returns Inv-loop μ-loop
 returns c = putting-all (c .before .loop .inv) (search needs)
 
