@@ -10,7 +10,7 @@ use Rattle.kinds.specs.declared.VertexNumber.{VertexNumber}
 use Rattle.meaning.specs.Bounds.{largestD}
 use Rattle.meaning.proofs.Lists.{map-append}
 use Rattle.table.specs.Record.{padded, vertexNumber}
-use Rattle.lister.specs.declared.place.Path.{Path}
+use Rattle.lister.specs.declared.Path.{Path}
 use Rattle.lister.specs.Place.{pathRecord}
 
 -- the cell behind a list that is filled up

@@ -15,7 +15,7 @@ use Rattle.meaning.proofs.Suffice.{run-zero}
 use Rattle.meaning.proofs.Edges.{separation-is}
 use Rattle.lister.specs.Columns.{SoundColumns, ColumnsOf, edgeAt}
 use Rattle.lister.specs.Ways.{onBy, waysFrom, ways, allWays, verticesOn, pathBy}
-use Rattle.lister.specs.Rows.{runs, wayRow, wayRows}
+use Rattle.lister.specs.Rows.{loadRow, runs, wayRow, wayRows}
 use Rattle.lister.proofs.Ways.{edge-below}
 use Rattle.lister.proofs.Taken.{Taken, way-taken}
 use Rattle.lister.proofs.PathsAreWays.{map-map, tos, paths-are-ways}
@@ -23,10 +23,6 @@ use Rattle.lister.proofs.PathsAreWays.{map-map, tos, paths-are-ways}
 map-mem : {A B : Type 0} (f g : A → B) (xs : List A) → ((x : A) → List·Memᴰ x xs → f x ≡ g x) → map f xs ≡ map g xs
 map-mem f g [] h = refl
 map-mem f g (x ∷ xs) h = ap₂ (λ y (z : List _). y ∷ z) (h x (List·Memᴰ·head refl)) (map-mem f g xs (λ y m. h y (List·Memᴰ·tail m)))
-
--- a path's loads at 1 to d
-abbrev pub loadRow : Task → ℕ → List ℕ → List ℕ
-loadRow k d w = map (load k w) (ticks d)
 
 module _ {k : Task} {e start to p : List ℕ} (c : ColumnsOf k e start to p) where
   -- the loads from v, behind `below`, at room ticks
@@ -102,7 +98,7 @@ module _ {k : Task} {e start to p : List ℕ} (c : ColumnsOf k e start to p) whe
       ∙ sym (map-map (λ (q : List ℕ). v ∷ q) L H)) (all-ways-rows d (suc v) n (omega arith))
       ∙ sym (map-append L (onBy v H) R)
 
-  -- the rows that `single_rows` puts are the paths' loads
+  -- the rows that `rows_all` puts are the paths' loads
   pub loads-are-rows : (d n : ℕ) → n ≡ length (k .vertices) → wayRows e to p d (allWays start to p d 0 n) ≡ map (loadRow k d) (pathsOf k d)
   unfolding wayRows allWays ways
   loads-are-rows d n h =

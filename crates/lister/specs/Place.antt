@@ -7,7 +7,7 @@ use lib.ListN.{length, getD}
 use lib.Seq.{sets}
 use Rattle.meaning.specs.Bounds.{largestD}
 use Rattle.table.specs.Record.{padded, vertexNumber}
-use Rattle.lister.specs.declared.place.Path.{Path}
+use Rattle.lister.specs.declared.Path.{Path}
 use Rattle.lister.specs.declared.place.Sought.{Sought}
 use Rattle.lister.specs.Ways.{ways, verticesOn}
 

@@ -4,9 +4,16 @@ use Prim.Native.Nat.{ℕ, _+_, _-_, _*_, _≤_}
 use mathlib.Core.List.{List, [], _∷_, _++_, map}
 use lib.ListN.{length, getD, take, replicate}
 use lib.Seq.{sets}
+use Rattle.meaning.specs.Lists.{ticks}
 use Rattle.meaning.specs.Bounds.{largestD}
+use Rattle.meaning.specs.Table.{Task}
+use Rattle.meaning.specs.Paths.{Path, load}
 use Rattle.lister.specs.Columns.{mostCounted}
 use Rattle.lister.specs.Ways.{ways}
+
+-- a path's loads at 1 to d
+abbrev pub loadRow : Task → ℕ → Path → List ℕ
+loadRow k d w = map (load k w) (ticks d)
 
 -- the loads that begin with v, where `room` ticks are left and the prefix has `below`: the total stands from a release to the next
 module _ (e to p : List ℕ) where

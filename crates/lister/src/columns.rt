@@ -65,7 +65,7 @@ fn executions(t: Task) -> [u16; 12]
     e
 }
 
-pub fn columns_of(t: Task) -> Columns
+pub(crate) fn columns_of(t: Task) -> Columns
     requires { ⌜ Ready t ⌝ }
     ensures { λ c. ⌜ ColumnsOf (taskOf t) (c .e) (c .start) (c .to) (c .p) ⌝ }
 {

@@ -1,5 +1,6 @@
 // "A path kept by value in an array of 200 zeros with a length, rebuilt from its place in the order."
 use kinds::VertexNumber;
+use crate::Path;
 use crate::numbers::index;
 use crate::numbers::separation;
 ghost use mathlib.Core.Path.{_≡_};
@@ -10,11 +11,6 @@ ghost use Rattle.meaning.specs.Bounds.{mostVertices, largestD};
 ghost use Rattle.lister.specs.Columns.{SoundColumns, mostCounted};
 ghost use Rattle.lister.specs.Ways.{allWays, pathBy};
 ghost use Rattle.lister.specs.Place.{Found, pathRecord};
-
-pub struct Path {
-    pub vertices: [VertexNumber; 200],
-    pub len: usize,
-}
 
 // Found: n is the path's length. Not found: n of the places are still to pass.
 struct Sought {

@@ -79,7 +79,7 @@ fn rows_from(
 }
 
 // The row of the path of place i is row 2i of the part, each of d cells; the rows between are unchanged. Gives how many paths there are.
-pub fn single_rows(
+pub(crate) fn rows_all(
     part: &mut [u32],
     d: usize,
     e: &[u16; 12],

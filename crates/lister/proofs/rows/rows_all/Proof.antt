@@ -5,10 +5,10 @@ use borrow.Author.Needs.{needs}
 use lib.ListN.{length, length-replicate}
 use Rattle.meaning.specs.Bounds.{largestD}
 use Rattle.lister.proofs.AllRows.{Filling, filling-all, filling-none, filling-on, filling-room}
-use Rattle.lister.proofs.rows.single_rows.Statement.{statement}
-use Rattle.lister.proofs.rows.single_rows.Tie as tie
-use Rattle.lister.proofs.rows.single_rows.Reads as reads
-use Rattle.lister.proofs.rows.single_rows.Lts as lts
+use Rattle.lister.proofs.rows.rows_all.Statement.{statement}
+use Rattle.lister.proofs.rows.rows_all.Tie as tie
+use Rattle.lister.proofs.rows.rows_all.Reads as reads
+use Rattle.lister.proofs.rows.rows_all.Lts as lts
 use Rattle.lister.proofs.rows.rows_from.Reads as rows-from-reads
 
 abbrev Inv-loop : tie.InvT-loop
@@ -43,8 +43,8 @@ same-length c = c .before .loop .inv .size
 returns : tie.Need-returns Inv-loop μ-loop
 returns c = filling-all (c .before .loop .inv) (c .loop-test .left)
 
-pub single-rows-spec : {M : Type 1} → statement M
-single-rows-spec =
+pub rows-all-spec : {M : Type 1} → statement M
+rows-all-spec =
     tie.close
     (tie.spec
     Inv-loop
