@@ -10,3 +10,4 @@ pub mod RowsAreLoads
 pub mod EdgeStarts
 pub mod TaskColumns
 pub mod ByValue
+pub mod Readiness

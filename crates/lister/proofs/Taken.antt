@@ -10,7 +10,7 @@ use lib.ListN.{length, getD}
 use lib.Dec.{ltb}
 use Rattle.meaning.specs.Lists.{pick, gather}
 use Rattle.meaning.specs.Bounds.{mostVertices}
-use Rattle.meaning.proofs.Lists.{gather-mem, countFrom-mem}
+use Rattle.meaning.proofs.Lists.{mem-getD, gather-mem, countFrom-mem}
 use Rattle.lister.specs.Columns.{SoundColumns, edgesOf}
 use Rattle.lister.specs.Ways.{orStop, onBy, waysFrom, ways}
 use Rattle.lister.proofs.Ways.{edge-below}
@@ -53,11 +53,6 @@ module _ (start to p : List ℕ) where
       let l = edge-below start to p s v j hv (w .0) (w .1) in
       let a = s .apart j l in
       omega (arith, taken-short s (room - getD p j 0) (getD to j 0) h (s .within j l) (omega arith) (w .3))
-
-mem-getD : {A : Type 0} (z : A) (xs : List A) (i : ℕ) → i < length xs → List·Memᴰ (getD xs i z) xs
-mem-getD z [] i h = absurd (omega arith)
-mem-getD z (x ∷ xs) zero h = List·Memᴰ·head refl
-mem-getD z (x ∷ xs) (suc i) h = List·Memᴰ·tail (mem-getD z xs i (omega arith))
 
 -- a path has at most as many vertices as ticks
 pub way-short : (start to p : List ℕ) → SoundColumns start to p → (v r i : ℕ) → v < mostVertices → 0 < r → i < length (ways start to p v r) → length (getD (ways start to p v r) i []) < r

@@ -6,7 +6,7 @@ use native.Mathlib.Omega.{arith}
 use mathlib.Core.Bool.{Bool, true, false, _&&_}
 use mathlib.Core.Logic.{_⊎_, inl, inr}
 use mathlib.Core.List.{List, [], _∷_, _++_, map, append-assoc, List·Memᴰ, List·Memᴰ·head, List·Memᴰ·tail, Memᴰ·append-left, Memᴰ·append-right, List·Memᴰ·append-cases, List·Memᴰ·not-nil}
-use lib.ListN.{take}
+use lib.ListN.{length, getD, take}
 use lib.Dec.{T}
 use Rattle.meaning.specs.Lists.{pick, all, those, largest, gather, countFrom}
 
@@ -77,6 +77,11 @@ module _ {X : Type 0} where
   mem-take (suc n) [] m = absurd (List·Memᴰ·not-nil m)
   mem-take (suc n) (y ∷ ys) (List·Memᴰ·head q) = List·Memᴰ·head q
   mem-take (suc n) (y ∷ ys) (List·Memᴰ·tail m) = List·Memᴰ·tail (mem-take n ys m)
+
+  pub mem-getD : (z : X) (xs : List X) (i : ℕ) → i < length xs → List·Memᴰ (getD xs i z) xs
+  mem-getD z [] i h = absurd (omega arith)
+  mem-getD z (x ∷ xs) zero h = List·Memᴰ·head refl
+  mem-getD z (x ∷ xs) (suc i) h = List·Memᴰ·tail (mem-getD z xs i (omega arith))
 
 -- ---- gather
 
