@@ -5,6 +5,7 @@ pub mod Onward
 pub mod PathOrder
 pub mod Complete
 pub mod Loads
+pub mod LoadBounds
 pub mod Suffice
 pub mod Firsts
 pub mod Groups

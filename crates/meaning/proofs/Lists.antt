@@ -2,12 +2,11 @@
 use mathlib.Core.Path.{_≡_, refl, sym, ap, subst, _∙_}
 use Prim.Native.Nat.{ℕ, zero, suc, _+_, _≤_, _<_}
 use native.Mathlib.Decide.{ℕ-discrete}
-use native.Mathlib.Nat.{not-suc-le-zero, le-of-suc-le-suc}
 use native.Mathlib.Omega.{arith}
 use mathlib.Core.Bool.{Bool, true, false, _&&_}
 use mathlib.Core.Logic.{_⊎_, inl, inr}
 use mathlib.Core.List.{List, [], _∷_, _++_, map, append-assoc, List·Memᴰ, List·Memᴰ·head, List·Memᴰ·tail, Memᴰ·append-left, Memᴰ·append-right, List·Memᴰ·append-cases, List·Memᴰ·not-nil}
-use lib.ListN.{length, take, getD}
+use lib.ListN.{length, getD, take}
 use lib.Dec.{T}
 use Rattle.meaning.specs.Lists.{pick, all, those, largest, gather, countFrom}
 
@@ -79,10 +78,10 @@ module _ {X : Type 0} where
   mem-take (suc n) (y ∷ ys) (List·Memᴰ·head q) = List·Memᴰ·head q
   mem-take (suc n) (y ∷ ys) (List·Memᴰ·tail m) = List·Memᴰ·tail (mem-take n ys m)
 
-  pub mem-getD : (xs : List X) (i : ℕ) (z : X) → i < length xs → List·Memᴰ (getD xs i z) xs
-  mem-getD [] i z h = absurd (not-suc-le-zero h)
-  mem-getD (x ∷ xs) zero z h = List·Memᴰ·head refl
-  mem-getD (x ∷ xs) (suc i) z h = List·Memᴰ·tail (mem-getD xs i z (le-of-suc-le-suc h))
+  pub mem-getD : (z : X) (xs : List X) (i : ℕ) → i < length xs → List·Memᴰ (getD xs i z) xs
+  mem-getD z [] i h = absurd (omega arith)
+  mem-getD z (x ∷ xs) zero h = List·Memᴰ·head refl
+  mem-getD z (x ∷ xs) (suc i) h = List·Memᴰ·tail (mem-getD z xs i (omega arith))
 
 -- ---- gather
 

@@ -14,7 +14,7 @@ use Rattle.meaning.proofs.Edges.{Spaced, link-edge, out-spaced}
 use Rattle.meaning.proofs.Onward.{onward, mem-onward, alone-mem, some-path, mem-complete}
 use Rattle.meaning.proofs.Loads.{runOn, ifRoom-mono, run-mono, run-one, load-run}
 
-run-zero : (k : Task) (u : ℕ) (w : Path) → runOn k u w 0 ≡ 0
+pub run-zero : (k : Task) (u : ℕ) (w : Path) → runOn k u w 0 ≡ 0
 run-zero k u [] = refl
 run-zero k u (v ∷ w) = refl
 

@@ -81,7 +81,7 @@ pub desk-witness : (ts : Table) → SoundTable ts → (q : Place) → List·Mem�
 desk-witness ts s q m =
     let p = place-in ts q m in
     let k = taskAt ts (q .task) in
-    let sound = s .eachTask k (mem-getD ts (q .task) noTask (p .0)) in
-    let short : 1 + deadline ts (q .task) (q .vertex) ≤ 1 + largestD = omega (arith, sound .eachVertex (vertexAt k (q .vertex)) (mem-getD (k .vertices) (q .vertex) noVertex (p .1)) .mostD) in
+    let sound = s .eachTask k (mem-getD noTask ts (q .task) (p .0)) in
+    let short : 1 + deadline ts (q .task) (q .vertex) ≤ 1 + largestD = omega (arith, sound .eachVertex (vertexAt k (q .vertex)) (mem-getD noVertex (k .vertices) (q .vertex) (p .1)) .mostD) in
     let few : q .task ≤ 7 = omega (arith, s .taskCount, p .0) in
     le-trans (mul-le-mul few short) (omega arith)

@@ -1,0 +1,13 @@
+pub mod Stores
+pub mod Ways
+pub mod Taken
+pub mod PutRows
+pub mod AllRows
+pub mod Places
+pub mod AllPlaces
+pub mod PathsAreWays
+pub mod RowsAreLoads
+pub mod EdgeStarts
+pub mod TaskColumns
+pub mod ByValue
+pub mod Readiness

@@ -1,0 +1,71 @@
+use Prim.Native.Nat.{_+_, _-_, _≤_, _<_, min}
+use mathlib.Core.Path.{_≡_, refl, sym, ap, _∙_}
+use native.Mathlib.Omega.{arith}
+use borrow.Author.Needs.{needs}
+use lib.ListN.{length}
+use Rattle.lister.specs.Ways.{allWays}
+use Rattle.lister.proofs.Ways.{all-ways-length, all-ways-none}
+use Rattle.lister.proofs.count.count_all.Statement.{statement}
+use Rattle.lister.proofs.count.count_all.Tie as tie
+use Rattle.lister.proofs.count.count_all.Reads as reads
+use Rattle.lister.proofs.count.count_all.Lts as lts
+use Rattle.lister.proofs.count.count_from.Reads as count-from-reads
+
+abbrev Inv-loop : tie.InvT-loop
+Inv-loop start to p n d cap sum₀ v₀ sum v = (v ≤ n) × (sum < cap) × (sum + length (allWays start to p d v n) ≡ length (allWays start to p d 0 n))
+
+abbrev μ-loop : tie.MeasureT-loop
+μ-loop start to p n d cap sum₀ v₀ sum v = n - v
+
+loop-holds : tie.Need-loop-holds Inv-loop μ-loop
+loop-holds c = (omega arith, omega arith, omega arith)
+
+sub-count-from : tie.Need-sub-count-from Inv-loop μ-loop
+sub-count-from c = omega arith
+
+count-from-requires : tie.Need-count-from-requires Inv-loop μ-loop
+count-from-requires c κs = (c .before .before .pre .0, (omega arith, omega arith, omega arith, omega arith))
+
+add-sum : tie.Need-add-sum Inv-loop μ-loop
+add-sum c = omega arith
+
+returns : tie.Need-returns Inv-loop μ-loop
+returns c =
+    let s = c .before .before .before .before in
+    let y = all-ways-length (s .args .start .now) (s .args .to .now) (s .args .p .now) (s .args .d) (c .before .before .before .loop .v) (s .args .n) (c .before .before .loop-test .taken) in
+    let z = c .before .count-from .ensures in
+    omega arith
+
+add-v : tie.Need-add-v Inv-loop μ-loop
+add-v c = omega arith
+
+loop-less : tie.Need-loop-less Inv-loop μ-loop
+loop-less c = omega arith
+
+loop-again : tie.Need-loop-again Inv-loop μ-loop
+loop-again c =
+    let s = c .before .before .before .before in
+    let y = all-ways-length (s .args .start .now) (s .args .to .now) (s .args .p .now) (s .args .d) (c .before .before .before .loop .v) (s .args .n) (c .before .before .loop-test .taken) in
+    let z = c .before .count-from .ensures in
+    (omega arith, omega arith, omega arith)
+
+returns-2 : tie.Need-returns-2 Inv-loop μ-loop
+returns-2 c =
+    let s = c .before .before in
+    omega (arith, ap length (all-ways-none (s .args .start .now) (s .args .to .now) (s .args .p .now) (s .args .d) (c .before .loop .v) (s .args .n) (c .loop-test .left)))
+
+pub count-all-spec : {M : Type 1} → statement M
+count-all-spec =
+    tie.close
+    (tie.spec
+    Inv-loop
+    μ-loop
+    loop-holds
+    sub-count-from
+    count-from-requires
+    add-sum
+    returns
+    add-v
+    loop-less
+    loop-again
+    returns-2)

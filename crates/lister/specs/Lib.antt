@@ -1,0 +1,4 @@
+pub mod Columns
+pub mod Ways
+pub mod Rows
+pub mod Place

@@ -1,0 +1,4 @@
+pub mod LargerCells
+pub mod Rows
+pub mod Building
+pub mod WholeStretch
