@@ -10,13 +10,7 @@ use borrow.Rule.Slice.PartMut.{putMid}
 use Rattle.meaning.specs.Groups.{half, firstPart, secondPart}
 use Rattle.ranges.specs.Stretch.{largerCells, largestRow, topRow, stretchCells, singleRows, inOrder}
 use Rattle.ranges.proofs.LargerCells.{larger-zeros, length-largest, largest-append, pairLarger}
-use Rattle.ranges.proofs.Rows.{cells-sum, inOrder-one, inOrder-two, order-fuel, order-length, order-row, top-fits}
-
-drop-take : (k n : ℕ) (l : List ℕ) → drop k (take n l) ≡ take (n - k) (drop k l)
-drop-take zero n l = let z : n - 0 ≡ n = omega arith in rw z
-drop-take (suc k) n [] = ap (drop (suc k)) (take-nil n) ∙ sym (take-nil (n - suc k))
-drop-take (suc k) zero (x ∷ l) = let z : 0 - suc k ≡ 0 = omega arith in rw z
-drop-take (suc k) (suc n) (x ∷ l) = let z : suc n - suc k ≡ n - k = omega arith in rw z (drop-take k n l)
+use Rattle.ranges.proofs.Rows.{cells-sum, drop-take, inOrder-one, inOrder-two, order-fuel, order-length, order-row, top-fits}
 
 pub single-count : (d n : ℕ) (P : List ℕ) → length (singleRows d n P) ≡ n
 single-count d zero P = refl

@@ -2,3 +2,5 @@ pub mod LargerCells
 pub mod Rows
 pub mod Building
 pub mod WholeStretch
+pub mod Nodes
+pub mod CellBounds

@@ -9,7 +9,7 @@ use mathlib.Core.Bool.{Bool, true, false}
 use mathlib.Core.List.{List, [], _∷_, _++_}
 use lib.Dec.{ltb}
 use lib.ListN.{length, take, drop, length-append, length-drop}
-use lib.Seq.{length-take-le, take-at, drop-at, take-all}
+use lib.Seq.{length-take-le, take-at, drop-at, take-all, take-nil}
 use Rattle.meaning.specs.Lists.{pick}
 use Rattle.meaning.specs.Groups.{half, firstPart, secondPart}
 use Rattle.ranges.specs.Stretch.{topRow, stretchCells, inside, inOrder}
@@ -96,8 +96,17 @@ module _ {X : Type 0} (row : List X → List ℕ) where
               ∙ ap (take d) (inOrder-one (suc n) xs (omega arith)) ∙ take-all d (row xs) (omega (arith, hr xs))
         ]
 
-pub top-fits : (d c : ℕ) → 0 < c → topRow c * d + d ≤ stretchCells d c
-top-fits d c h = le-trans (omega (arith, add-mul (topRow c) 1 d, one-mul d)) (mul-le-mul-right {m = topRow c + 1} d (elim (decLt 1 c) [
+pub top-below : (c : ℕ) → 0 < c → topRow c + 1 ≤ 2 * c - 1
+top-below c h = elim (decLt 1 c) [
   | yes l ↦ omega (arith, top-two c l)
   | no l ↦ omega (arith, top-one c (omega arith))
-]))
+]
+
+pub top-fits : (d c : ℕ) → 0 < c → topRow c * d + d ≤ stretchCells d c
+top-fits d c h = le-trans (omega (arith, add-mul (topRow c) 1 d, one-mul d)) (mul-le-mul-right {m = topRow c + 1} d (top-below c h))
+
+pub drop-take : {X : Type 0} (k n : ℕ) (l : List X) → drop k (take n l) ≡ take (n - k) (drop k l)
+drop-take zero n l = let z : n - 0 ≡ n = omega arith in rw z
+drop-take (suc k) n [] = ap (drop (suc k)) (take-nil n) ∙ sym (take-nil (n - suc k))
+drop-take (suc k) zero (x ∷ l) = let z : 0 - suc k ≡ 0 = omega arith in rw z
+drop-take (suc k) (suc n) (x ∷ l) = let z : suc n - suc k ≡ n - k = omega arith in rw z (drop-take k n l)
