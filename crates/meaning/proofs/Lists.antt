@@ -98,6 +98,11 @@ module _ {X Y : Type 0} where
       go ih (inl k) = (z, List·Memᴰ·head refl, k)
       go ih (inr k) = let r = ih k in (r .0, List·Memᴰ·tail (r .1), r .2)
 
+  pub getD-mapped : (f : X → Y) (z : Y) (w : X) (xs : List X) (i : ℕ) → i < length xs → getD (map f xs) i z ≡ f (getD xs i w)
+  getD-mapped f z w [] i h = absurd (omega arith)
+  getD-mapped f z w (x ∷ xs) zero h = refl
+  getD-mapped f z w (x ∷ xs) (suc i) h = getD-mapped f z w xs i (omega arith)
+
   pub gather-append : (f : X → List Y) (xs ys : List X) → gather f (xs ++ ys) ≡ gather f xs ++ gather f ys
   gather-append f [] ys = refl
   gather-append f (x ∷ xs) ys = ap (λ (l : List Y). f x ++ l) (gather-append f xs ys) ∙ sym (append-assoc (f x) (gather f xs) (gather f ys))

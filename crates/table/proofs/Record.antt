@@ -1,8 +1,9 @@
 -- A record stands for the table that it is the record of. Assumes nothing.
 use mathlib.Core.Path.{_≡_, refl, ap, ap₂, _∙_}
-use Prim.Native.Nat.{ℕ, _-_, _<_, suc}
+use Prim.Native.Nat.{ℕ, _-_, _<_, suc, _≤_}
 use mathlib.Core.List.{List, [], _∷_, map}
-use lib.ListN.{length, take, replicate, getD, List·getD-append}
+use native.Mathlib.Omega.{arith}
+use lib.ListN.{length-append, length-replicate, length, take, replicate, getD, List·getD-append}
 use lib.Seq.{take-at}
 use Rattle.meaning.specs.Bounds.{mostTasks, mostVertices, mostEdges}
 use Rattle.meaning.specs.Table as Meant
@@ -17,6 +18,10 @@ take-padded n z xs = take-at xs (replicate (n - length xs) z) (length xs) refl
 pub getD-padded : {X : Type 0} (n : ℕ) (z w : X) (xs : List X) (i : ℕ) → i < length xs → getD (padded n z xs) i w ≡ getD xs i w
 unfolding padded
 getD-padded n z w xs i h = List·getD-append xs (replicate (n - length xs) z) w i h
+
+pub length-padded : {X : Type 0} (n : ℕ) (z : X) (xs : List X) → length xs ≤ n → length (padded n z xs) ≡ n
+unfolding padded
+length-padded n z xs h = omega (arith, length-append xs (replicate (n - length xs) z), length-replicate (n - length xs) z)
 
 -- what f makes of each element, undone by g
 undone : {X Y : Type 0} (f : X → Y) (g : Y → X) → ((x : X) → g (f x) ≡ x) → (xs : List X) → map g (map f xs) ≡ xs

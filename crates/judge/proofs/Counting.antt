@@ -1,0 +1,112 @@
+-- Counting the higher tasks' paths: the first with too many, the stretches' starts, the rows in all. Assumes nothing.
+use mathlib.Core.Path.{_≡_, refl, sym, ap, subst, _∙_}
+use Prim.Native.Nat.{ℕ, zero, suc, _+_, _-_, _*_, _≤_, _<_, min}
+use native.Mathlib.Omega.{arith}
+use native.Mathlib.Nat.{eq-or-lt-of-le, mul-le-mul}
+use native.Mathlib.Numerals.{add-one}
+use native.Mathlib.Decide.{ℕ-discrete}
+use mathlib.Core.Logic.{⊎-elim}
+use mathlib.Core.List.{List, [], _∷_, _++_, map}
+use lib.ListN.{length, take, getD, set, length-set, length-map}
+use lib.Seq.{take-suc, getD-set-same, getD-set-other, getD-take, length-take-le}
+use Rattle.meaning.specs.Lists.{sum}
+use Rattle.meaning.specs.Bounds.{mostPaths, largestD}
+use Rattle.meaning.specs.Table as Meant
+use Rattle.meaning.specs.Table.{noTask, taskAt, higher}
+use Rattle.meaning.specs.Paths.{pathsOf}
+use Rattle.meaning.proofs.Lists.{getD-mapped}
+use Rattle.meaning.proofs.PathsOf.{paths-some}
+use Rattle.table.specs.declared.Task.{Task}
+use Rattle.table.specs.declared.Table.{Table}
+use Rattle.table.specs.Record.{taskOf, tableOf}
+use Rattle.table.specs.Record as Blank
+use Rattle.judge.specs.declared.above.Above.{Above}
+use Rattle.judge.specs.Above.{Held, pathCounts, rowsIn, Counting, Counted}
+use Rattle.judge.proofs.Records.{held-count, held-is, held-sound}
+
+rows-snoc : (ns : List ℕ) (n : ℕ) → rowsIn (ns ++ n ∷ []) ≡ rowsIn ns + (2 * n - 1)
+unfolding rowsIn
+rows-snoc [] n = omega arith
+rows-snoc (m ∷ ns) n = omega (arith, rows-snoc ns n)
+
+pub rows-more : (ns : List ℕ) (j : ℕ) → j < length ns → rowsIn (take (j + 1) ns) ≡ rowsIn (take j ns) + (2 * getD ns j 0 - 1)
+rows-more ns j h = rw (add-one j, take-suc ns j 0 h) (rows-snoc (take j ns) (getD ns j 0))
+
+pub counting-none : (h d : ℕ) (ns counts roots : List ℕ) → h ≤ 7 → d ≤ largestD → length counts ≡ 7 → length roots ≡ 7 → Counting h d ns counts roots 0 0
+unfolding rowsIn
+counting-none h d ns counts roots f s a b =
+    record {
+      seven = f;
+      short = s;
+      low = omega arith;
+      counts7 = a;
+      roots7 = b;
+      few = λ k m. absurd (omega arith);
+      same = λ k m. absurd (omega arith);
+      starts = λ k m. absurd (omega arith);
+      all = refl;
+      small = omega arith;
+    }
+
+-- below j + 1 and not j
+below : (k j : ℕ) → k < j + 1 → (k ≡ j → ⊥) → k < j
+below k j m q = ⊎-elim (λ (x : k ≡ j). absurd (q x)) (λ x. x) (eq-or-lt-of-le (omega arith))
+
+-- what a cell is to hold, when it is stored and those before it hold theirs
+stored : (f : ℕ → ℕ) (xs : List ℕ) (j v : ℕ) → j < length xs → v ≡ f j → ((k : ℕ) → k < j → getD xs k 0 ≡ f k) → (k : ℕ) → k < j + 1 → getD (set xs j v) k 0 ≡ f k
+stored f xs j v l e h k m = elim (ℕ-discrete k j) [ yes q ↦ rw (q, getD-set-same xs j v 0 l) e | no q ↦ rw (getD-set-other xs j k v 0 q) (h k (below k j m q)) ]
+
+pub counting-more : {h d : ℕ} {ns counts roots : List ℕ} {rows j : ℕ} (n : ℕ) → Counting h d ns counts roots rows j → h ≤ length ns → j < h → (n ≡ getD ns j 0) × (1 ≤ n) → n ≤ mostPaths
+    → Counting h d ns (set counts j n) (set roots j (rows * d)) (rows + (2 * n - 1)) (j + 1)
+counting-more {h} {d} {ns} {counts} {roots} {rows} {j} n c hn l (e, a) b =
+    let h7 = c .seven in
+    let c7 = c .counts7 in
+    let r7 = c .roots7 in
+    record {
+      seven = h7;
+      short = c .short;
+      low = omega arith;
+      counts7 = length-set counts j n ∙ c7;
+      roots7 = length-set roots j (rows * d) ∙ r7;
+      few = λ k m. elim (ℕ-discrete k j) [ yes q ↦ rw (q, ← e) b | no q ↦ c .few k (below k j m q) ];
+      same = stored (λ (k : ℕ). getD ns k 0) counts j n (omega arith) e (c .same);
+      starts = stored (λ (k : ℕ). rowsIn (take k ns) * d) roots j (rows * d) (omega arith) (ap (λ (r : ℕ). r * d) (c .all)) (c .starts);
+      all = omega (arith, c .all, rows-more ns j (omega arith));
+      small = omega (arith, c .small);
+    }
+
+pub rows-fit : {h d : ℕ} {ns counts roots : List ℕ} {rows j : ℕ} → Counting h d ns counts roots rows j → rows * d ≤ 889 * largestD
+rows-fit {rows = rows} c = let few : rows ≤ 889 = omega (arith, c .small, c .low, c .seven) in mul-le-mul few (c .short)
+
+-- ---- of a held table
+
+module _ (t : Table) (k : Held t) (h d : ℕ) (l : h < t .n) where
+  abbrev ns : List ℕ
+  ns = pathCounts (higher (tableOf t) h) d
+
+  pub counts-length : length ns ≡ h
+  counts-length = length-map (higher (tableOf t) h) (λ (x : Meant.Task). length (pathsOf x d)) ∙ length-take-le h (tableOf t) (omega (arith, held-count t k))
+
+  higher-at : (j : ℕ) → j < h → getD (higher (tableOf t) h) j noTask ≡ taskAt (tableOf t) j
+  higher-at j m = getD-take h (tableOf t) j noTask m
+
+  -- task j's paths, by its record
+  pub count-at : (z : Task) (j : ℕ) → j < h → length (pathsOf (taskOf (getD (t .tasks) j z)) d) ≡ getD ns j 0
+  count-at z j m =
+      ap (λ (x : Meant.Task). length (pathsOf x d)) (held-is t k z j (omega arith) ∙ sym (higher-at j m))
+      ∙ sym (getD-mapped (λ (x : Meant.Task). length (pathsOf x d)) 0 noTask (higher (tableOf t) h) j (omega (arith, length-take-le h (tableOf t) (omega (arith, held-count t k)))))
+
+  pub count-some : (j : ℕ) → j < h → 1 ≤ getD ns j 0
+  count-some j m =
+      subst (λ (n : ℕ). 1 ≤ n) (count-at Blank.noTask j m)
+      (subst (λ (x : Meant.Task). 1 ≤ length (pathsOf x d)) (sym (held-is t k Blank.noTask j (omega arith))) (paths-some (taskAt (tableOf t) j) (held-sound t k j (omega arith)) d))
+
+  -- the lister's answer, cut off past the most that are allowed
+  abbrev Capped : Task → ℕ → ℕ → Type 0
+  Capped z j r = r ≡ min (mostPaths + 1) (length (pathsOf (taskOf (getD (t .tasks) j z)) d))
+
+  pub calm-at : (z : Task) (j r : ℕ) → j < h → Capped z j r → r ≤ mostPaths → (r ≡ getD ns j 0) × (1 ≤ r)
+  calm-at z j r m e f = (omega (arith, count-at z j m), omega (arith, count-at z j m, count-some j m))
+
+  pub crowd-at : (z : Task) (j r : ℕ) → j < h → Capped z j r → mostPaths < r → mostPaths < getD ns j 0
+  crowd-at z j r m e f = omega (arith, count-at z j m)

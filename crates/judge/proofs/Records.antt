@@ -1,0 +1,53 @@
+-- The record of a readable table: what stands in its cells. Assumes nothing.
+use mathlib.Core.Path.{_≡_, refl, sym, ap, subst, _∙_}
+use Prim.Native.Nat.{ℕ, _-_, _≤_, _<_}
+use native.Mathlib.Omega.{arith}
+use mathlib.Core.List.{List, map}
+use lib.ListN.{length, getD, length-map, List·getD-map}
+use Rattle.meaning.specs.Bounds.{mostTasks, mostVertices}
+use Rattle.meaning.specs.Table as Meant
+use Rattle.meaning.specs.Table.{noTask, taskAt, noVertex, vertexAt}
+use Rattle.meaning.specs.Sound.{SoundTask, SoundTable}
+use Rattle.meaning.proofs.Lists.{mem-getD, getD-mapped}
+use Rattle.table.specs.declared.Vertex.{Vertex}
+use Rattle.table.specs.declared.Task.{Task}
+use Rattle.table.specs.declared.Table.{Table}
+use Rattle.table.specs.Record.{padded, vertexRecord, taskRecord, tableRecord, vertexOf, tableOf, taskOf}
+use Rattle.table.specs.Record as Blank
+use Rattle.table.proofs.Record.{getD-padded, length-padded, table-of-record, task-of-record}
+use Rattle.lister.specs.Columns.{Ready}
+use Rattle.lister.proofs.Readiness.{ready-record}
+use Rattle.judge.specs.Above.{Held}
+
+-- the record of a sound table is held
+pub held-record : (ts : Meant.Table) → SoundTable ts → Held (tableRecord ts)
+held-record ts s = record { whole = ap tableRecord (sym (table-of-record ts)); sound = subst SoundTable (sym (table-of-record ts)) s }
+
+module _ (t : Table) (k : Held t) where
+  abbrev ts : Meant.Table
+  ts = tableOf t
+
+  pub held-count : t .n ≡ length ts
+  held-count = ap (λ (x : Table). x .n) (k .whole)
+
+  pub held-few : t .n ≤ mostTasks
+  held-few = omega (arith, held-count, k .sound .taskCount)
+
+  pub held-cells : length (t .tasks) ≡ mostTasks
+  held-cells = ap (λ (x : Table). length (x .tasks)) (k .whole) ∙ length-padded mostTasks Blank.noTask (map taskRecord ts) (omega (arith, length-map ts taskRecord, k .sound .taskCount))
+
+  -- the task at place j, whatever is read where there is none
+  pub held-task : (z : Task) (j : ℕ) → j < t .n → getD (t .tasks) j z ≡ taskRecord (taskAt ts j)
+  held-task z j h =
+      ap (λ (x : Table). getD (x .tasks) j z) (k .whole)
+      ∙ getD-padded mostTasks Blank.noTask z (map taskRecord ts) j (omega (arith, length-map ts taskRecord, held-count))
+      ∙ getD-mapped taskRecord z noTask ts j (omega (arith, held-count))
+
+  pub held-sound : (j : ℕ) → j < t .n → SoundTask (taskAt ts j)
+  held-sound j h = k .sound .eachTask (taskAt ts j) (mem-getD noTask ts j (omega (arith, held-count)))
+
+  pub held-ready : (z : Task) (j : ℕ) → j < t .n → Ready (getD (t .tasks) j z)
+  held-ready z j h = subst Ready (sym (held-task z j h)) (ready-record (taskAt ts j) (held-sound j h))
+
+  pub held-is : (z : Task) (j : ℕ) → j < t .n → taskOf (getD (t .tasks) j z) ≡ taskAt ts j
+  held-is z j h = ap taskOf (held-task z j h) ∙ task-of-record (taskAt ts j)
