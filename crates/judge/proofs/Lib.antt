@@ -1,3 +1,4 @@
 pub mod Records
 pub mod Counting
 pub mod Fronts
+pub mod Filling

@@ -3,3 +3,4 @@
 // returns at once."
 mod above;
 mod areas;
+mod stretches;
