@@ -2,3 +2,4 @@ pub mod Records
 pub mod Counting
 pub mod Fronts
 pub mod Filling
+pub mod Placing

@@ -4,3 +4,4 @@
 mod above;
 mod areas;
 mod stretches;
+mod witness;

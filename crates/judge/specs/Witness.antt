@@ -1,0 +1,18 @@
+-- The cells of a path by value, and the paths at places of the higher tasks' lists. Assumes nothing.
+use Prim.Native.Nat.{ℕ}
+use mathlib.Core.List.{List, [], _∷_, map}
+use lib.ListN.{take, getD}
+use Rattle.meaning.specs.Table.{Task}
+use Rattle.meaning.specs.Paths.{Path, pathsOf}
+use Rattle.kinds.specs.declared.VertexNumber.{VertexNumber}
+use Rattle.lister.specs.declared.Path as Lister
+
+-- its length and its vertices
+abbrev pub pathCells : Lister.Path → List ℕ
+pathCells p = p .len ∷ map (λ (v : VertexNumber). v .0) (take (p .len) (p .vertices))
+
+-- of each task the path at its place
+abbrev pub pathsAt : List Task → ℕ → List ℕ → List Path
+pathsAt [] d ps = []
+pathsAt (k ∷ ks) d [] = []
+pathsAt (k ∷ ks) d (p ∷ ps) = getD (pathsOf k d) p [] ∷ pathsAt ks d ps

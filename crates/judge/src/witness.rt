@@ -1,0 +1,33 @@
+// "On a miss its front holds, per higher task in order, the path's length and vertices; all else in it is unchanged."
+use kinds::Ticks;
+use lister::Path;
+use lister::path_at;
+use table::Table;
+ghost use mathlib.Core.Path.{_≡_};
+ghost use Prim.Native.Nat.{ℕ, _+_, _*_, _≤_, _<_};
+ghost use lib.ListN.{length, take, getD};
+ghost use Rattle.meaning.specs.Bounds.{largestD};
+ghost use Rattle.meaning.specs.Table.{higher};
+ghost use Rattle.meaning.specs.Verdict.{cellsOf};
+ghost use Rattle.table.specs.Record.{tableOf};
+ghost use Rattle.lister.specs.Columns.{mostCounted};
+ghost use Rattle.frames.specs.Lines.{Wrote};
+ghost use Rattle.judge.specs.Above.{Held};
+ghost use Rattle.judge.specs.Witness.{pathCells, pathsAt};
+
+// One path's cells, from a place on; gives the place behind them.
+fn write_path(witness: &mut [u16], at: usize, path: Path) -> usize
+    requires { ⌜ (path .len ≤ largestD) × (length (path .vertices) ≡ largestD) × (at + 1 + path .len ≤ length (now witness)) ⌝ }
+    ensures { λ r. ⌜ Wrote (pathCells path) (now (witness .entry)) at (now (witness .exit)) r ⌝ }
+{
+    let len = path.len;
+    witness[at] = len as u16;
+    let from = at + 1;
+    let mut i: usize = 0;
+    while i < len {
+        let v = path.vertices[i];
+        witness[from + i] = v.0 as u16;
+        i += 1;
+    }
+    from + len
+}
