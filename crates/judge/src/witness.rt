@@ -31,3 +31,26 @@ fn write_path(witness: &mut [u16], at: usize, path: Path) -> usize
     }
     from + len
 }
+
+// The paths at these places, one of each higher task; gives how many cells they take.
+pub(crate) fn write_witness(
+    witness: &mut [u16],
+    t: Table,
+    places: [usize; 7],
+    h: usize,
+    d: Ticks,
+) -> usize
+    requires { ⌜ Held t × (h < t .n) × (0 < d .0) × (d .0 ≤ largestD) ⌝ }
+    requires { ⌜ ((j : ℕ) → j < h → getD places j 0 ≤ mostCounted) × (h * (1 + d .0) ≤ length (now witness)) ⌝ }
+    ensures { λ r. ⌜ Wrote (cellsOf (pathsAt (higher (tableOf t) h) (d .0) places)) (now (witness .entry)) 0 (now (witness .exit)) r ⌝ }
+{
+    let mut at: usize = 0;
+    let mut j: usize = 0;
+    while j < h {
+        let task = t.tasks[j];
+        let path = path_at(task, d, places[j]);
+        at = write_path(witness, at, path);
+        j += 1;
+    }
+    at
+}

@@ -12,6 +12,7 @@ use Rattle.meaning.specs.Sound.{SoundTask}
 use Rattle.meaning.proofs.Edges.{sound-spaced, sound-fanned}
 use Rattle.meaning.proofs.Onward.{some-path, mem-complete, complete-legal}
 use Rattle.meaning.proofs.PathOrder.{rising-complete}
+use Rattle.meaning.proofs.Complete.{listed-short}
 use Rattle.meaning.proofs.Suffice.{dominated}
 
 pub paths-legal : (k : Task) (d : ℕ) {c : Path} → List·Memᴰ c (pathsOf k d) → T (legal k c)
@@ -34,3 +35,7 @@ module _ (k : Task) (s : SoundTask k) (d : ℕ) where
   pub paths-suffice : (w : Path) → T (legal k w) → (c : Path) × List·Memᴰ c (pathsOf k d) × ((t : ℕ) → t ≤ d → load k w t ≤ load k c t)
   unfolding pathsOf
   paths-suffice w l = dominated k (sound-spaced k s) d w l
+
+  pub paths-short : 1 ≤ d → (c : Path) → List·Memᴰ c (pathsOf k d) → length c ≤ d
+  unfolding pathsOf
+  paths-short o c m = listed-short k (sound-spaced k s) (sound-fanned k s) d o c m
