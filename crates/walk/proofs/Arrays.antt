@@ -57,7 +57,7 @@ module _ (h : ℕ) (fs ls : List ℕ) (hf : length fs ≡ mostHigher) (hl : leng
 
 -- ---- arrays that hold a group
 
-module _ (h d : ℕ) (root base first len : List ℕ) (xs : List Range) (w : Holds h d root base first len xs) where
+module _ {h d : ℕ} {root base first len : List ℕ} {xs : List Range} (w : Holds h d root base first len xs) where
   pub holds-firsts : firsts xs ≡ take h first
   holds-firsts = let a = w .first7 in let b = w .len7 in ap firsts (sym (w .group)) ∙ paired-firsts h first len (omega arith)
 
@@ -81,25 +81,24 @@ module _ (h d : ℕ) (root base first len : List ℕ) (xs : List Range) (w : Hol
             ∙ sym (starts-set d (take h root) xs j (range a b));
       }
 
-module _ (h d : ℕ) (root base₀ first₀ len₀ : List ℕ) where
-  pub stands-start : (base first len : List ℕ) (xs : List Range) → Holds h d root base first len xs → Stands h d root base first len base first len xs
-  stands-start base first len xs w = record { holds = w; bases = refl; firsts = refl; lens = refl }
+pub stands-start : {h d : ℕ} {root base first len : List ℕ} {xs : List Range} → Holds h d root base first len xs → Stands h d root base first len base first len xs
+stands-start w = record { holds = w; bases = refl; firsts = refl; lens = refl }
 
-  module _ (base first len : List ℕ) (xs : List Range) (w : Stands h d root base₀ first₀ len₀ base first len xs) (j b v : ℕ) (l : j < h) where
-    pub stands-set : (a : ℕ) → v ≡ rowStart d (getD root j 0) (range a b) → Stands h d root base₀ first₀ len₀ (set base j v) (set first j a) (set len j b) (set xs j (range a b))
-    stands-set a e =
-        record {
-          holds = holds-set h d root base first len xs (w .holds) j a b v l e;
-          bases = drop-set-lt h base j v l ∙ w .bases;
-          firsts = drop-set-lt h first j a l ∙ w .firsts;
-          lens = drop-set-lt h len j b l ∙ w .lens;
-        }
+module _ {h d : ℕ} {root base₀ first₀ len₀ base first len : List ℕ} {xs : List Range} (w : Stands h d root base₀ first₀ len₀ base first len xs) (j b v : ℕ) (l : j < h) where
+  pub stands-set : (a : ℕ) → v ≡ rowStart d (getD root j 0) (range a b) → Stands h d root base₀ first₀ len₀ (set base j v) (set first j a) (set len j b) (set xs j (range a b))
+  stands-set a e =
+      record {
+        holds = holds-set (w .holds) j a b v l e;
+        bases = drop-set-lt h base j v l ∙ w .bases;
+        firsts = drop-set-lt h first j a l ∙ w .firsts;
+        lens = drop-set-lt h len j b l ∙ w .lens;
+      }
 
-    -- the range stays where it begins
-    pub stands-set-len : v ≡ rowStart d (getD root j 0) (range (getD first j 0) b) → Stands h d root base₀ first₀ len₀ (set base j v) first (set len j b) (set xs j (range (getD first j 0) b))
-    stands-set-len e =
-        subst (λ (z : List ℕ). Stands h d root base₀ first₀ len₀ (set base j v) z (set len j b) (set xs j (range (getD first j 0) b))) (set-getD first j 0)
-        (stands-set (getD first j 0) e)
+  -- the range stays where it begins
+  pub stands-set-len : v ≡ rowStart d (getD root j 0) (range (getD first j 0) b) → Stands h d root base₀ first₀ len₀ (set base j v) first (set len j b) (set xs j (range (getD first j 0) b))
+  stands-set-len e =
+      subst (λ (z : List ℕ). Stands h d root base₀ first₀ len₀ (set base j v) z (set len j b) (set xs j (range (getD first j 0) b))) (set-getD first j 0)
+      (stands-set (getD first j 0) e)
 
 -- ---- a range of a group of the walk
 
@@ -115,9 +114,9 @@ pub record At (n f m : ℕ) : Type 0 where
   pub within : f + m ≤ n
   pub full : 0 < m
 
-pub ready-at : (h d : ℕ) (root count base first len : List ℕ) → Ready h d root count base first len
+pub ready-at : {h d : ℕ} {root count base first len : List ℕ} → Ready h d root count base first len
     → (j : ℕ) → j < h → At (getD count j 0) (getD first j 0) (getD len j 0)
-ready-at h d root count base first len w j l =
+ready-at {h} {count = count} {first = first} {len = len} w j l =
     let s = w .stretches in
     let p = w .holds .first7 in
     let q = w .holds .len7 in

@@ -29,7 +29,7 @@ all-short : (xs : List Range) → ((k : ℕ) → k < length xs → getD xs k noR
 all-short [] a = refl
 all-short (x ∷ xs) a = rw (le-ltb 1 (x .len) (a 0 (omega arith)), all-short xs (λ k l. a (suc k) (omega arith)))
 
-module _ (h d : ℕ) (root count base first len : List ℕ) (w : Ready h d root count base first len) where
+module _ {h d : ℕ} {root count base first len : List ℕ} (w : Ready h d root count base first len) where
   abbrev xs : List Range
   xs = groupIn h first len
 
@@ -49,8 +49,8 @@ module _ (h d : ℕ) (root count base first len : List ℕ) (w : Ready h d root 
   pub child-asks : (j : ℕ) → j < h → 1 < getD len j 0
       → (getD first j 0 + (getD len j 0 - getD len j 0 / 2) ≤ mostPaths) × (d ≤ largestD) × (rowStart d (getD root j 0) (range (getD first j 0) (getD len j 0 - getD len j 0 / 2)) ≤ largestIndex)
   child-asks j l m =
-      row-asked h d root count (w .stretches) j l (getD first j 0) (getD len j 0 - getD len j 0 / 2)
-      (rw (half-is (getD len j 0)) (node-first-half (ready-at h d root count base first len w j l .node) m))
+      row-asked (w .stretches) j l
+      (rw (half-is (getD len j 0)) (node-first-half (ready-at w j l .node) m))
 
   pub child-found : (j v : ℕ) → j < h → ((k : ℕ) → k < j → getD len k 0 ≤ 1) → 1 < getD len j 0
       → v ≡ rowStart d (getD root j 0) (range (getD first j 0) (getD len j 0 - getD len j 0 / 2))
@@ -64,11 +64,11 @@ module _ (h d : ℕ) (root count base first len : List ℕ) (w : Ready h d root 
       record {
         says = refl;
         stands = subst (Stands h d root base first len (set base j v) first (set len j n)) c
-            (stands-set-len h d root base first len base first len xs (stands-start h d root base first len base first len xs (w .holds)) j n v l e);
+            (stands-set-len (stands-start (w .holds)) j n v l e);
       }
 
   pub child-none : ((k : ℕ) → k < h → getD len k 0 ≤ 1) → Stepped (descend xs) h d root base first len Witness base first len
   child-none a =
       let n = long-xs in
       let i = all-short xs (λ k m. omega (arith, a k (omega arith), len-at k (omega arith))) in
-      rw i record { says = refl; stands = stands-start h d root base first len base first len xs (w .holds) }
+      rw i record { says = refl; stands = stands-start (w .holds) }

@@ -65,7 +65,7 @@ pub record Back (h d : ℕ) (root count base₀ first₀ len₀ base first len :
   pub stands : Stands h d root base₀ first₀ len₀ base first len (wholeFrom (take h count) (groupIn h first₀ len₀) j)
   pub ended : (k : ℕ) → j ≤ k → k < h → getD count k 0 ≤ getD first₀ k 0 + getD len₀ k 0
 
-module _ (h d : ℕ) (root count base₀ first₀ len₀ : List ℕ) (w : Ready h d root count base₀ first₀ len₀) where
+module _ {h d : ℕ} {root count base₀ first₀ len₀ : List ℕ} (w : Ready h d root count base₀ first₀ len₀) where
   abbrev xs : List Range
   xs = groupIn h first₀ len₀
 
@@ -90,15 +90,15 @@ module _ (h d : ℕ) (root count base₀ first₀ len₀ : List ℕ) (w : Ready 
         low = omega arith;
         stands = subst (Stands h d root base₀ first₀ len₀ base₀ first₀ len₀)
             (sym (ap₂ (λ (p : List Range) (q : List ℕ). p ++ topGroup q) (take-all h xs (omega (arith, long-xs))) (drop-of-length-le ns {i = h} (omega (arith, long-ns))) ∙ append-nil xs))
-            (stands-start h d root base₀ first₀ len₀ base₀ first₀ len₀ xs (w .holds));
+            (stands-start (w .holds));
         ended = λ k p q. absurd (omega arith);
       }
 
-  module _ (base first len : List ℕ) where
-    pub back-from : (j : ℕ) → 0 < j → Back h d root count base₀ first₀ len₀ base first len j → Back h d root count base₀ first₀ len₀ base first len (suc (j - 1))
-    back-from j l b = let e : suc (j - 1) ≡ j = omega arith in rw e b
+  module _ {base first len : List ℕ} where
+    pub back-from : {j : ℕ} → 0 < j → Back h d root count base₀ first₀ len₀ base first len j → Back h d root count base₀ first₀ len₀ base first len (suc (j - 1))
+    back-from {j} l b = let e : suc (j - 1) ≡ j = omega arith in rw e b
 
-    module _ (i : ℕ) (b : Back h d root count base₀ first₀ len₀ base first len (suc i)) where
+    module _ {i : ℕ} (b : Back h d root count base₀ first₀ len₀ base first len (suc i)) where
       abbrev s : ℕ
       s = getD first i 0 + getD len i 0
 
@@ -117,16 +117,16 @@ module _ (h d : ℕ) (root count base₀ first₀ len₀ : List ℕ) (w : Ready 
       -- the place behind the range at i
       pub back-end : (s ≡ getD first₀ i 0 + getD len₀ i 0) × (0 < s) × (s ≤ getD count i 0) × (getD count i 0 ≤ mostPaths)
       back-end =
-          let a = ready-at h d root count base₀ first₀ len₀ w i in-h in
+          let a = ready-at w i in-h in
           let e : s ≡ getD first₀ i 0 + getD len₀ i 0 = end-is ∙ end-at i in-h in
           (e, omega arith, omega arith, w .stretches .paths i in-h .1)
 
       pub back-asks : s < getD count i 0 → (m : ℕ) → m ≡ restLength 0 (getD count i 0) s
           → (s + m ≤ mostPaths) × (d ≤ largestD) × (rowStart d (getD root i 0) (range s m) ≤ largestIndex)
-      back-asks l m e = row-asked h d root count (w .stretches) i in-h s m (rw e (rest-next (getD count i 0) s (back-end .1) l .node))
+      back-asks l m e = row-asked (w .stretches) i in-h (rw e (rest-next (getD count i 0) s (back-end .1) l .node))
 
       pub back-asks-whole : (0 + getD count i 0 ≤ mostPaths) × (d ≤ largestD) × (rowStart d (getD root i 0) (range 0 (getD count i 0)) ≤ largestIndex)
-      back-asks-whole = row-asked h d root count (w .stretches) i in-h 0 (getD count i 0) (top refl refl)
+      back-asks-whole = row-asked (w .stretches) i in-h (top refl refl)
 
       pub back-found : (m v : ℕ) → s < getD count i 0 → m ≡ restLength 0 (getD count i 0) s → v ≡ rowStart d (getD root i 0) (range s m)
           → Stepped (onward ns xs) h d root base₀ first₀ len₀ Next (set base i v) (set first i s) (set len i m)
@@ -139,7 +139,7 @@ module _ (h d : ℕ) (root count base₀ first₀ len₀ : List ℕ) (w : Ready 
           rw n
           record {
             says = refl;
-            stands = stands-set h d root base₀ first₀ len₀ base first len (wholeFrom ns xs (suc i)) (b .stands) i m v in-h s f;
+            stands = stands-set (b .stands) i m v in-h s f;
           }
 
       pub back-more : (v : ℕ) → getD count i 0 ≤ s → v ≡ rowStart d (getD root i 0) (range 0 (getD count i 0))
@@ -149,11 +149,11 @@ module _ (h d : ℕ) (root count base₀ first₀ len₀ : List ℕ) (w : Ready 
             low = omega (arith, in-h);
             stands = subst (Stands h d root base₀ first₀ len₀ (set base i v) (set first i 0) (set len i (getD count i 0)))
                 (ap (λ (n : ℕ). set (wholeFrom ns xs (suc i)) i (range 0 n)) (sym (count-at i in-h)) ∙ whole-back ns xs i (omega (arith, in-h, long-xs)) (omega (arith, in-h, long-ns)))
-                (stands-set h d root base₀ first₀ len₀ base first len (wholeFrom ns xs (suc i)) (b .stands) i (getD count i 0) v in-h 0 f);
+                (stands-set (b .stands) i (getD count i 0) v in-h 0 f);
             ended = λ k p q. ⊎-elim (λ (z : i ≡ k). rw (← z) (omega (arith, back-end))) (λ z. b .ended k (omega arith) q) (eq-or-lt-of-le p);
           }
 
-    pub back-none : (j : ℕ) → j ≡ 0 → Back h d root count base₀ first₀ len₀ base first len j → Stepped (onward ns xs) h d root base₀ first₀ len₀ Last base first len
-    back-none j e b =
+    pub back-none : {j : ℕ} → j ≡ 0 → Back h d root count base₀ first₀ len₀ base first len j → Stepped (onward ns xs) h d root base₀ first₀ len₀ Last base first len
+    back-none e b =
         let n : nextGroup ns xs ≡ none = next-none ns xs (λ k l. omega (arith, b .ended k (omega arith) (omega (arith, long-xs)), end-at k (omega (arith, long-xs)), count-at k (omega (arith, long-xs)))) in
         rw n record { says = refl; stands = subst (λ (k : ℕ). Stands h d root base₀ first₀ len₀ base first len (wholeFrom ns xs k)) e (b .stands) }

@@ -45,8 +45,8 @@ pub row-small : (f n d : ℕ) → f + n ≤ mostPaths → d ≤ largestD → row
 row-small f n d h k = let r : rowOf (range f n) ≤ 2 * mostPaths = omega (arith, top-small n) in mul-le-mul r k
 
 -- what is asked where a row's start is summed
-pub row-asked : (h d : ℕ) (root count : List ℕ) → Stretches largestIndex h d root count → (j : ℕ) → j < h → (f m : ℕ) → Node 0 (getD count j 0) f m
+pub row-asked : {h d : ℕ} {root count : List ℕ} → Stretches largestIndex h d root count → (j : ℕ) → j < h → {f m : ℕ} → Node 0 (getD count j 0) f m
     → (f + m ≤ mostPaths) × (d ≤ largestD) × (rowStart d (getD root j 0) (range f m) ≤ largestIndex)
-row-asked h d root count s j l f m x =
+row-asked {h} {d} {root} s j l x =
     let p = s .paths j l in
     (omega (arith, node-in x), s .short, omega (arith, row-end d (getD root j 0) x (p .0), s .within j l))

@@ -36,8 +36,8 @@ module _ (over : List Range → Bool) (ns : List ℕ) (b n : ℕ) (xs : List Ran
 abbrev pub nowhere : List ℕ
 nowhere = replicate mostHigher 0
 
-pub wider : (room h d : ℕ) (root count : List ℕ) → room ≤ largestIndex → Stretches room h d root count → Stretches largestIndex h d root count
-wider room h d root count l s =
+pub wider : {room h d : ℕ} {root count : List ℕ} → room ≤ largestIndex → Stretches room h d root count → Stretches largestIndex h d root count
+wider l s =
     record { few = s .few; short = s .short; root7 = s .root7; count7 = s .count7; paths = s .paths; within = λ j k. le-trans (s .within j k) l }
 
 filled-by : (h : ℕ) (ns : List ℕ) → h ≤ length ns → ((j : ℕ) → j < h → 0 < getD ns j 0) → Filled (take h ns)
@@ -45,38 +45,38 @@ filled-by zero ns l p = tt
 filled-by (suc h) [] l p = absurd (omega arith)
 filled-by (suc h) (n ∷ ns) l p = (p 0 (omega arith), filled-by h ns (omega arith) (λ j k. p (suc j) (omega arith)))
 
-pub counts-filled : (room h d : ℕ) (root count : List ℕ) → Stretches room h d root count → Filled (take h count)
-counts-filled room h d root count s = let a = s .few in let b = s .count7 in filled-by h count (omega arith) (λ j l. s .paths j l .0)
+pub counts-filled : {room h d : ℕ} {root count : List ℕ} → Stretches room h d root count → Filled (take h count)
+counts-filled {h = h} {count = count} s = let a = s .few in let b = s .count7 in filled-by h count (omega arith) (λ j l. s .paths j l .0)
 
-module _ (h d e b : ℕ) (root count work : List ℕ) where
+-- after n groups the arrays hold the next, and going on from there gives the whole answer
+pub record Going (h d e b : ℕ) (root count work base first len : List ℕ) (n : ℕ) : Type 0 where
+  pub ready : Ready h d root count base first len
+  pub zeros : drop h first ≡ drop h nowhere
+  pub most : n ≤ b
+  pub same : runRows work d e (take h root) (take h count) b ≡ runFrom (groupOverloads work d e (take h root)) (take h count) (b - n) n (groupIn h first len)
+
+module _ {h d e : ℕ} {root count work : List ℕ} (f : Walkable h d e root count work) where
   abbrev rows : List Range → Bool
   rows = groupOverloads work d e (take h root)
 
   abbrev ns : List ℕ
   ns = take h count
 
-  -- after n groups the arrays hold the next, and going on from there gives the whole answer
-  pub record Going (base first len : List ℕ) (n : ℕ) : Type 0 where
-    pub ready : Ready h d root count base first len
-    pub zeros : drop h first ≡ drop h nowhere
-    pub most : n ≤ b
-    pub same : runRows work d e (take h root) ns b ≡ runFrom rows ns (b - n) n (groupIn h first len)
-
-  module _ (f : Walkable h d e root count work) where
-    pub going-top : length work ≤ largestIndex → (base first len : List ℕ) → Stands h d root nowhere nowhere nowhere base first len (topGroup ns) → Going base first len 0
-    going-top l base first len s =
+  module _ {b : ℕ} where
+    pub going-top : length work ≤ largestIndex → {base first len : List ℕ} → Stands h d root nowhere nowhere nowhere base first len (topGroup ns) → Going h d e b root count work base first len 0
+    going-top l s =
         record {
           ready = record {
-            stretches = wider (length work) h d root count l (f .stretches);
-            holds = holds-own h d root base first len (topGroup ns) (s .holds);
-            reached = rw (s .holds .group) (filled-top ns (counts-filled (length work) h d root count (f .stretches)));
+            stretches = wider l (f .stretches);
+            holds = holds-own (s .holds);
+            reached = rw (s .holds .group) (filled-top ns (counts-filled (f .stretches)));
           };
           zeros = s .firsts;
           most = omega arith;
           same = ap₂ (λ (k : ℕ) (xs : List Range). runFrom rows ns k 0 xs) (sym (sub-zero b)) (sym (s .holds .group));
         }
 
-    module _ (base first len : List ℕ) (n : ℕ) (g : Going base first len n) where
+    module _ {base first len : List ℕ} {n : ℕ} (g : Going h d e b root count work base first len n) where
       abbrev here : List Range
       here = groupIn h first len
 
@@ -87,16 +87,16 @@ module _ (h d e b : ℕ) (root count work : List ℕ) where
           let q : n ≡ b = omega arith in
           sym (g .same ∙ ap (λ (z : ℕ). runFrom rows ns z n here) k ∙ ap (λ (z : ℕ). walked (Unfinished z) []) q)
 
-      module _ (l : n < b) (told : Examined) (base′ first′ len′ : List ℕ) (s : Stepped (examine rows ns here) h d root base first len told base′ first′ len′) where
+      module _ (l : n < b) {told : Examined} {base′ first′ len′ : List ℕ} (s : Stepped (examine rows ns here) h d root base first len told base′ first′ len′) where
         on-told : (t : Examined) → told ≡ t → runRows work d e (take h root) ns b ≡ runBy n (λ (ys : List Range). runFrom rows ns (b - (n + 1)) (n + 1) ys) t (examine rows ns here .group)
         on-told t q = g .same ∙ run-told rows ns b n here l t (sym q ∙ s .says)
 
-        pub going-next : told ≡ Next → Going base′ first′ len′ (n + 1)
+        pub going-next : told ≡ Next → Going h d e b root count work base′ first′ len′ (n + 1)
         going-next q =
             record {
               ready = record {
                 stretches = g .ready .stretches;
-                holds = holds-own h d root base′ first′ len′ (examine rows ns here .group) (s .stands .holds);
+                holds = holds-own (s .stands .holds);
                 reached = rw (s .stands .holds .group) (examine-walk rows ns here (g .ready .reached));
               };
               zeros = s .stands .firsts ∙ g .zeros;
@@ -112,7 +112,7 @@ module _ (h d e b : ℕ) (root count work : List ℕ) where
             let z = s .stands .holds in
             let r = f .stretches .few in
             let i = z .first7 in
-            let e′ : firsts (examine rows ns here .group) ≡ take h first′ = holds-firsts h d root base′ first′ len′ (examine rows ns here .group) z in
+            let e′ : firsts (examine rows ns here .group) ≡ take h first′ = holds-firsts z in
             let k : length (firsts (examine rows ns here .group)) ≡ h = ap length e′ ∙ length-take-le h first′ (omega arith) in
             sym (take-append-drop h first′) ∙ ap₂ _++_ (sym e′) (s .stands .firsts ∙ g .zeros ∙ ap (λ (m : ℕ). drop m nowhere) (sym k))
 

@@ -44,7 +44,7 @@ starts-get d (r ∷ rs) [] j p q = absurd (omega arith)
 starts-get d (r ∷ rs) (x ∷ xs) zero p q = refl
 starts-get d (r ∷ rs) (x ∷ xs) (suc j) p q = starts-get d rs xs j (omega arith) (omega arith)
 
-module _ (h d e : ℕ) (root count base first len work : List ℕ) (f : Walkable h d e root count work) (w : Ready h d root count base first len) where
+module _ {h d e : ℕ} {root count base first len work : List ℕ} (f : Walkable h d e root count work) (w : Ready h d root count base first len) where
   abbrev xs : List Range
   xs = groupIn h first len
 
@@ -66,20 +66,20 @@ module _ (h d e : ℕ) (root count base first len work : List ℕ) (f : Walkable
       record {
         base7 = w .holds .base7;
         within = λ j l.
-            let a = ready-at h d root count base first len w j l in
+            let a = ready-at w j l in
             omega (arith, base-at j l, row-end d (getD root j 0) (a .node) (f .stretches .paths j l .0), f .stretches .within j l);
-        cells = λ j l t k. rw (base-at j l) (f .cells j l (getD first j 0) (getD len j 0) (ready-at h d root count base first len w j l .node) t k);
+        cells = λ j l t k. rw (base-at j l) (f .cells j l (getD first j 0) (getD len j 0) (ready-at w j l .node) t k);
       }
 
   -- the test's answer o, taken apart, and then the move's answer r
-  module _ (o : Bool) (is : o ≡ rowsOverload work d e (take h base)) (r v : Bool) (q : r ≡ v) (base′ first′ len′ : List ℕ) where
+  module _ {o : Bool} (is : o ≡ rowsOverload work d e (take h base)) where
     over-is : (u : Bool) → o ≡ u → over xs ≡ u
     over-is u k = sym (ap (rowsOverload work d e) (w .holds .starts)) ∙ sym is ∙ k
 
-    pub step-descends : o ≡ true → Stepped (descend xs) h d root base first len (pick r Next Witness) base′ first′ len′
+    pub step-descends : o ≡ true → {r v : Bool} → r ≡ v → {base′ first′ len′ : List ℕ} → Stepped (descend xs) h d root base first len (pick r Next Witness) base′ first′ len′
         → Stepped (examine over (take h count) xs) h d root base first len (pick v Next Witness) base′ first′ len′
-    step-descends k m = rw (over-is true k, ← q) m
+    step-descends k q m = rw (over-is true k, ← q) m
 
-    pub step-onward : o ≡ false → Stepped (onward (take h count) xs) h d root base first len (pick r Next Last) base′ first′ len′
+    pub step-onward : o ≡ false → {r v : Bool} → r ≡ v → {base′ first′ len′ : List ℕ} → Stepped (onward (take h count) xs) h d root base first len (pick r Next Last) base′ first′ len′
         → Stepped (examine over (take h count) xs) h d root base first len (pick v Next Last) base′ first′ len′
-    step-onward k m = rw (over-is false k, ← q) m
+    step-onward k q m = rw (over-is false k, ← q) m

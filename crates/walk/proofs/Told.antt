@@ -28,7 +28,7 @@ module _ {X : Type 0} (load : X → ℕ → ℕ) (h d e : ℕ) (root count work 
       let a = w .stretches .few in
       let c = w .stretches .root7 in
       run-says load e d Gs (groupOverloads work d e (take (length Gs) root)) (overloads-are load work d e Gs root (omega arith) rows) b
-      (rw are at (counts-filled (length work) h d root count (w .stretches))) r
+      (rw are at (counts-filled (w .stretches))) r
       (q ∙ ap₂ (λ (k : ℕ) (ns : List ℕ). runRows work d e (take k root) ns b) (sym many) are)
 
   count-is : (j : ℕ) → j < h → getD count j 0 ≡ length (getD Gs j [])
@@ -62,7 +62,7 @@ places-whole h d e root count work w b r q =
     let c = w .stretches .count7 in
     ap (λ (z : Walked). length (z .places)) q
     ∙ run-places (groupOverloads work d e (take h root)) (take h count) (omega (arith, length-take-le h count (omega arith))) b 0 (topGroup (take h count))
-    (filled-top (take h count) (counts-filled (length work) h d root count (w .stretches)))
+    (filled-top (take h count) (counts-filled (w .stretches)))
 
 -- ---- the witness's paths, one after the other
 

@@ -1,6 +1,6 @@
 -- The top group is written range by range. Assumes nothing.
 use mathlib.Core.Path.{_≡_, refl, sym, ap, ap₂, subst, _∙_}
-use Prim.Native.Nat.{ℕ, suc, _+_, _≤_, _<_}
+use Prim.Native.Nat.{ℕ, suc, _+_, _<_}
 use native.Mathlib.Omega.{arith}
 use native.Mathlib.Numerals.{add-one}
 use mathlib.Core.List.{List, [], _∷_, _++_}
@@ -9,7 +9,7 @@ use lib.Seq.{take-suc, take-suc-set, drop-set-lt, length-take-le}
 use Rattle.walk.specs.Ranges.{Range, range, topGroup}
 use Rattle.walk.specs.Rows.{rowStart, rowStarts}
 use Rattle.walk.specs.Steps.{mostHigher}
-use Rattle.walk.specs.Lent.{paired, Holds, Stands}
+use Rattle.walk.specs.Lent.{paired, Holds, Stretches, Stands}
 use Rattle.walk.proofs.Arrays.{paired-length, paired-set}
 
 top-append : (ns ms : List ℕ) → topGroup (ns ++ ms) ≡ topGroup ns ++ topGroup ms
@@ -33,15 +33,17 @@ pub record Begun (h d : ℕ) (root count base₀ first₀ len₀ base first len 
   pub firsts : drop h first ≡ drop h first₀
   pub lens : drop h len ≡ drop h len₀
 
-module _ (h d : ℕ) (root count base₀ first₀ len₀ : List ℕ) where
+module _ {h d : ℕ} {root count base₀ first₀ len₀ : List ℕ} where
   pub top-none : length base₀ ≡ mostHigher → length first₀ ≡ mostHigher → length len₀ ≡ mostHigher → Begun h d root count base₀ first₀ len₀ base₀ first₀ len₀ 0
   top-none b f l = record { holds = record { base7 = b; first7 = f; len7 = l; group = refl; starts = refl }; bases = refl; firsts = refl; lens = refl }
 
-  pub top-more : (few : h ≤ mostHigher) → length root ≡ mostHigher → length count ≡ mostHigher → (base first len : List ℕ) (j : ℕ) → j < h
+  pub top-more : {room : ℕ} → Stretches room h d root count → {base first len : List ℕ} {j : ℕ} → j < h
       → Begun h d root count base₀ first₀ len₀ base first len j → (v : ℕ) → v ≡ rowStart d (getD root j 0) (range 0 (getD count j 0))
       → Begun h d root count base₀ first₀ len₀ (set base j v) (set first j 0) (set len j (getD count j 0)) (j + 1)
-  top-more few hr hc base first len j l w v e =
-      let c = getD count j 0 in
+  top-more s {base} {first} {len} {j} l w v e =
+      let few = s .few in
+      let hr = s .root7 in
+      let hc = s .count7 in
       let b7 = w .holds .base7 in
       let f7 = w .holds .first7 in
       let l7 = w .holds .len7 in
@@ -68,6 +70,6 @@ module _ (h d : ℕ) (root count base₀ first₀ len₀ : List ℕ) where
         lens = drop-set-lt h len j (getD count j 0) l ∙ w .lens;
       }
 
-  pub top-all : (base first len : List ℕ) (j : ℕ) → j ≡ h → Begun h d root count base₀ first₀ len₀ base first len j → Stands h d root base₀ first₀ len₀ base first len (topGroup (take h count))
-  top-all base first len j e w =
+  pub top-all : {base first len : List ℕ} {j : ℕ} → j ≡ h → Begun h d root count base₀ first₀ len₀ base first len j → Stands h d root base₀ first₀ len₀ base first len (topGroup (take h count))
+  top-all {base} {first} {len} e w =
       record { holds = subst (λ (k : ℕ). Holds k d root base first len (topGroup (take k count))) e (w .holds); bases = w .bases; firsts = w .firsts; lens = w .lens }

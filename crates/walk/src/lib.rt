@@ -21,7 +21,7 @@ ghost use Rattle.walk.specs.Rows.{groupOverloads};
 ghost use Rattle.walk.specs.Steps.{examine, runRows};
 
 // What examining a group says: there is a next one, it was the last, or it is the witness.
-pub enum Examined {
+pub(crate) enum Examined {
     Next,
     Last,
     Witness,

@@ -14,7 +14,7 @@ abbrev μ-loop : tie.MeasureT-loop
 μ-loop root count base₀ first₀ len₀ h d j₀ base first len j = h - j
 
 loop-holds : tie.Need-loop-holds Inv-loop μ-loop
-loop-holds c = let a = c .args in (omega arith, top-none (a .h) (a .d) (a .root .now) (a .count .now) (a .base .now) (a .first .now) (a .len .now) (c .pre .1) (c .pre .2) (c .pre .3))
+loop-holds c = (omega arith, top-none (c .pre .1) (c .pre .2) (c .pre .3))
 
 mul-c : tie.Need-mul-c Inv-loop μ-loop
 mul-c c = omega arith
@@ -29,7 +29,7 @@ element-copy-out-row-start : tie.Need-element-copy-out-row-start Inv-loop μ-loo
 element-copy-out-row-start c = omega arith
 
 row-start-requires : tie.Need-row-start-requires Inv-loop μ-loop
-row-start-requires c κs = let l = c .before .before .before in let a = l .before .args in row-asked (a .h) (a .d) (a .root .now) (a .count .now) (l .before .pre .0) (l .loop .j) (omega arith) 0 _ (top refl refl)
+row-start-requires c κs = let l = c .before .before .before in row-asked (l .before .pre .0) (l .loop .j) (omega arith) (top refl refl)
 
 mul-base : tie.Need-mul-base Inv-loop μ-loop
 mul-base c = omega arith
@@ -56,10 +56,10 @@ loop-less : tie.Need-loop-less Inv-loop μ-loop
 loop-less c = omega arith
 
 loop-again : tie.Need-loop-again Inv-loop μ-loop
-loop-again c = let l = c .before .before .before .before in let s = l .before in let a = s .args in (omega arith, top-more (a .h) (a .d) (a .root .now) (a .count .now) (a .base .now) (a .first .now) (a .len .now) (s .pre .0 .few) (s .pre .0 .root7) (s .pre .0 .count7) (l .loop .base) (l .loop .first) (l .loop .len) (l .loop .j) (omega arith) (l .loop .inv .1) (c .row-start .result) (c .row-start .ensures))
+loop-again c = let l = c .before .before .before .before in (omega arith, top-more (l .before .pre .0) (omega arith) (l .loop .inv .1) (c .row-start .result) (c .row-start .ensures))
 
 returns : tie.Need-returns Inv-loop μ-loop
-returns c = let l = c .before in let a = l .before .args in top-all (a .h) (a .d) (a .root .now) (a .count .now) (a .base .now) (a .first .now) (a .len .now) (l .loop .base) (l .loop .first) (l .loop .len) (l .loop .j) (omega arith) (l .loop .inv .1)
+returns c = top-all (omega arith) (c .before .loop .inv .1)
 
 pub top-group-spec : {M : Type 1} → statement M
 top-group-spec =

@@ -38,7 +38,7 @@ element-copy-out-row-start-2 : tie.Need-element-copy-out-row-start-2 Inv-loop μ
 element-copy-out-row-start-2 c = omega arith
 
 row-start-requires : tie.Need-row-start-requires Inv-loop μ-loop
-row-start-requires c κs = let l = c .before .before .before .before .before in let s = l .before in let a = s .args in let i = l .loop .inv in let t = c .before .before .if1 .taken in rw (i .2) (child-asks (a .h) (a .d) (a .root .now) (a .count .now) (a .base .now) (a .first .now) (a .len .now) (s .pre) (l .loop .j) (omega arith) (rw (i .2) at t))
+row-start-requires c κs = let l = c .before .before .before .before .before in let i = l .loop .inv in rw (i .2) (child-asks (l .before .pre) (l .loop .j) (omega arith) (rw (i .2) at (c .before .before .if1 .taken)))
 
 mul-base : tie.Need-mul-base Inv-loop μ-loop
 mul-base c = omega arith
@@ -53,7 +53,7 @@ element-write-len : tie.Need-element-write-len Inv-loop μ-loop
 element-write-len c = omega arith
 
 returns : tie.Need-returns Inv-loop μ-loop
-returns c = let l = c .before .before .before .before .before .before in let s = l .before in let a = s .args in let i = l .loop .inv in let t = c .before .before .before .if1 .taken in rw (i .1, i .2) (child-found (a .h) (a .d) (a .root .now) (a .count .now) (a .base .now) (a .first .now) (a .len .now) (s .pre) (l .loop .j) (c .row-start .result) (omega arith) (i .3) (rw (i .2) at t) (rw (i .2) at (c .row-start .ensures)))
+returns c = let l = c .before .before .before .before .before .before in let i = l .loop .inv in rw (i .1, i .2) (child-found (l .before .pre) (l .loop .j) (c .row-start .result) (omega arith) (i .3) (rw (i .2) at (c .before .before .before .if1 .taken)) (rw (i .2) at (c .row-start .ensures)))
 
 add-j : tie.Need-add-j Inv-loop μ-loop
 add-j c = omega arith
@@ -62,10 +62,10 @@ loop-less : tie.Need-loop-less Inv-loop μ-loop
 loop-less c = omega arith
 
 loop-again : tie.Need-loop-again Inv-loop μ-loop
-loop-again c = let l = c .before .before .before in let i = l .loop .inv in let t = c .if1 .left in (omega arith, i .1, i .2, below-more _ _ (i .3) (rw (i .2) at t))
+loop-again c = let i = c .before .before .before .loop .inv in (omega arith, i .1, i .2, below-more _ _ (i .3) (rw (i .2) at (c .if1 .left)))
 
 returns-2 : tie.Need-returns-2 Inv-loop μ-loop
-returns-2 c = let l = c .before in let s = l .before in let a = s .args in let i = l .loop .inv in rw (i .1, i .2) (child-none (a .h) (a .d) (a .root .now) (a .count .now) (a .base .now) (a .first .now) (a .len .now) (s .pre) (λ k m. i .3 k (omega arith)))
+returns-2 c = let l = c .before in let i = l .loop .inv in rw (i .1, i .2) (child-none (l .before .pre) (λ k m. i .3 k (omega arith)))
 
 pub first-child-spec : {M : Type 1} → statement M
 first-child-spec =

@@ -1,5 +1,4 @@
 use native.Mathlib.Omega.{arith}
-use Prim.Native.Nat.{_-_}
 use Rattle.walk.proofs.NextGroup.{Back, back-start, back-from, back-end, back-asks, back-asks-whole, back-found, back-more, back-none}
 use Rattle.walk.proofs.moves.next_group.Statement.{statement}
 use Rattle.walk.proofs.moves.next_group.Tie as tie
@@ -11,7 +10,7 @@ abbrev μ-loop : tie.MeasureT-loop
 μ-loop root count base₀ first₀ len₀ h d j₀ base first len j = j
 
 loop-holds : tie.Need-loop-holds Inv-loop μ-loop
-loop-holds c = let a = c .args in back-start (a .h) (a .d) (a .root .now) (a .count .now) (a .base .now) (a .first .now) (a .len .now) (c .pre)
+loop-holds c = back-start (c .pre)
 
 sub-j : tie.Need-sub-j Inv-loop μ-loop
 sub-j c = omega arith
@@ -29,7 +28,7 @@ element-copy-out-s-2 : tie.Need-element-copy-out-s-2 Inv-loop μ-loop
 element-copy-out-s-2 c = omega arith
 
 add-s : tie.Need-add-s Inv-loop μ-loop
-add-s c = let l = c .before .before .before in let s = l .before in let a = s .args in omega (arith, back-end (a .h) (a .d) (a .root .now) (a .count .now) (a .base .now) (a .first .now) (a .len .now) (s .pre) (l .loop .base) (l .loop .first) (l .loop .len) (l .loop .j - 1) (back-from (a .h) (a .d) (a .root .now) (a .count .now) (a .base .now) (a .first .now) (a .len .now) (s .pre) (l .loop .base) (l .loop .first) (l .loop .len) (l .loop .j) (omega arith) (l .loop .inv)))
+add-s c = let l = c .before .before .before in let w = l .before .pre in omega (arith, back-end w (back-from w (omega arith) (l .loop .inv)))
 
 mul-c : tie.Need-mul-c Inv-loop μ-loop
 mul-c c = omega arith
@@ -44,10 +43,10 @@ element-copy-out-a : tie.Need-element-copy-out-a Inv-loop μ-loop
 element-copy-out-a c = omega arith
 
 rest-length-requires : tie.Need-rest-length-requires Inv-loop μ-loop
-rest-length-requires c κs = let l = c .before .before .before .before .before .before in let s = l .before in let a = s .args in let t = c .if1 .taken in omega (arith, back-end (a .h) (a .d) (a .root .now) (a .count .now) (a .base .now) (a .first .now) (a .len .now) (s .pre) (l .loop .base) (l .loop .first) (l .loop .len) (l .loop .j - 1) (back-from (a .h) (a .d) (a .root .now) (a .count .now) (a .base .now) (a .first .now) (a .len .now) (s .pre) (l .loop .base) (l .loop .first) (l .loop .len) (l .loop .j) (omega arith) (l .loop .inv)))
+rest-length-requires c κs = let l = c .before .before .before .before .before .before in let w = l .before .pre in let t = c .if1 .taken in omega (arith, back-end w (back-from w (omega arith) (l .loop .inv)))
 
 row-start-requires : tie.Need-row-start-requires Inv-loop μ-loop
-row-start-requires c κs = let l = c .before .before .before .before .before .before .before in let s = l .before in let a = s .args in back-asks (a .h) (a .d) (a .root .now) (a .count .now) (a .base .now) (a .first .now) (a .len .now) (s .pre) (l .loop .base) (l .loop .first) (l .loop .len) (l .loop .j - 1) (back-from (a .h) (a .d) (a .root .now) (a .count .now) (a .base .now) (a .first .now) (a .len .now) (s .pre) (l .loop .base) (l .loop .first) (l .loop .len) (l .loop .j) (omega arith) (l .loop .inv)) (c .before .if1 .taken) (c .rest-length .result) (c .rest-length .ensures)
+row-start-requires c κs = let l = c .before .before .before .before .before .before .before in let w = l .before .pre in back-asks w (back-from w (omega arith) (l .loop .inv)) (c .before .if1 .taken) (c .rest-length .result) (c .rest-length .ensures)
 
 mul-base : tie.Need-mul-base Inv-loop μ-loop
 mul-base c = omega arith
@@ -68,10 +67,10 @@ element-write-len : tie.Need-element-write-len Inv-loop μ-loop
 element-write-len c = omega arith
 
 returns : tie.Need-returns Inv-loop μ-loop
-returns c = let l = c .before .before .before .before .before .before .before .before in let s = l .before in let a = s .args in back-found (a .h) (a .d) (a .root .now) (a .count .now) (a .base .now) (a .first .now) (a .len .now) (s .pre) (l .loop .base) (l .loop .first) (l .loop .len) (l .loop .j - 1) (back-from (a .h) (a .d) (a .root .now) (a .count .now) (a .base .now) (a .first .now) (a .len .now) (s .pre) (l .loop .base) (l .loop .first) (l .loop .len) (l .loop .j) (omega arith) (l .loop .inv)) (c .before .rest-length .result) (c .row-start .result) (c .before .before .if1 .taken) (c .before .rest-length .ensures) (c .row-start .ensures)
+returns c = let l = c .before .before .before .before .before .before .before .before in let w = l .before .pre in let r = c .before .rest-length in back-found w (back-from w (omega arith) (l .loop .inv)) (r .result) (c .row-start .result) (c .before .before .if1 .taken) (r .ensures) (c .row-start .ensures)
 
 row-start-requires-2 : tie.Need-row-start-requires-2 Inv-loop μ-loop
-row-start-requires-2 c κs = let l = c .before .before .before .before .before .before in let s = l .before in let a = s .args in back-asks-whole (a .h) (a .d) (a .root .now) (a .count .now) (a .base .now) (a .first .now) (a .len .now) (s .pre) (l .loop .base) (l .loop .first) (l .loop .len) (l .loop .j - 1) (back-from (a .h) (a .d) (a .root .now) (a .count .now) (a .base .now) (a .first .now) (a .len .now) (s .pre) (l .loop .base) (l .loop .first) (l .loop .len) (l .loop .j) (omega arith) (l .loop .inv))
+row-start-requires-2 c κs = let l = c .before .before .before .before .before .before in let w = l .before .pre in back-asks-whole w (back-from w (omega arith) (l .loop .inv))
 
 mul-base-2 : tie.Need-mul-base-2 Inv-loop μ-loop
 mul-base-2 c = omega arith
@@ -95,10 +94,10 @@ loop-less : tie.Need-loop-less Inv-loop μ-loop
 loop-less c = omega arith
 
 loop-again : tie.Need-loop-again Inv-loop μ-loop
-loop-again c = let l = c .before .before .before .before .before .before .before in let s = l .before in let a = s .args in back-more (a .h) (a .d) (a .root .now) (a .count .now) (a .base .now) (a .first .now) (a .len .now) (s .pre) (l .loop .base) (l .loop .first) (l .loop .len) (l .loop .j - 1) (back-from (a .h) (a .d) (a .root .now) (a .count .now) (a .base .now) (a .first .now) (a .len .now) (s .pre) (l .loop .base) (l .loop .first) (l .loop .len) (l .loop .j) (omega arith) (l .loop .inv)) (c .row-start2 .result) (c .before .if1 .left) (c .row-start2 .ensures)
+loop-again c = let l = c .before .before .before .before .before .before .before in let w = l .before .pre in back-more w (back-from w (omega arith) (l .loop .inv)) (c .row-start2 .result) (c .before .if1 .left) (c .row-start2 .ensures)
 
 returns-2 : tie.Need-returns-2 Inv-loop μ-loop
-returns-2 c = let l = c .before in let s = l .before in let a = s .args in back-none (a .h) (a .d) (a .root .now) (a .count .now) (a .base .now) (a .first .now) (a .len .now) (s .pre) (l .loop .base) (l .loop .first) (l .loop .len) (l .loop .j) (omega arith) (l .loop .inv)
+returns-2 c = let l = c .before in let w = l .before .pre in back-none w (omega arith) (l .loop .inv)
 
 pub next-group-spec : {M : Type 1} → statement M
 next-group-spec =
