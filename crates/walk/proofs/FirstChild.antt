@@ -2,11 +2,12 @@
 use mathlib.Core.Path.{_≡_, refl, sym, ap, subst, _∙_}
 use Prim.Native.Nat.{ℕ, zero, suc, _+_, _-_, _/_, _≤_, _<_}
 use native.Mathlib.Omega.{arith}
-use mathlib.Core.Bool.{true, false}
+use mathlib.Core.Bool.{Bool, true, false, not, _&&_}
 use mathlib.Core.List.{List, [], _∷_}
 use lib.ListN.{length, getD, set}
 use borrow.Author.Tests.{lt-ltb, le-ltb}
 use Rattle.meaning.specs.Bounds.{largestD, mostPaths}
+use Rattle.meaning.specs.Lists.{pick}
 use Rattle.meaning.specs.Groups.{half}
 use Rattle.walk.specs.declared.Examined.the-variants.{Next, Witness}
 use Rattle.walk.specs.Ranges.{Range, range, firstHalf, allSingle, firstChild}
@@ -20,7 +21,8 @@ use Rattle.walk.proofs.Arrays.{noRange, group-length, group-get, stands
 child-at : (xs : List Range) (j : ℕ) → j < length xs → ((k : ℕ) → k < j → getD xs k noRange .len ≤ 1) → 1 < getD xs j noRange .len
     → (firstChild xs ≡ set xs j (firstHalf (getD xs j noRange))) × (allSingle xs ≡ false)
 child-at [] j h a b = absurd (omega arith)
-child-at (x ∷ xs) zero h a b = (rw (lt-ltb 1 (x .len) b), rw (lt-ltb 1 (x .len) b))
+child-at (x ∷ xs) zero h a b =
+    (ap (λ (v : Bool). pick v (firstHalf x ∷ xs) (x ∷ firstChild xs)) (lt-ltb 1 (x .len) b), ap (λ (v : Bool). not v && allSingle xs) (lt-ltb 1 (x .len) b))
 child-at (x ∷ xs) (suc j) h a b =
     let i = child-at xs j (omega arith) (λ k l. a (suc k) (omega arith)) b in
     (rw (le-ltb 1 (x .len) (a 0 (omega arith)), i .0), rw (le-ltb 1 (x .len) (a 0 (omega arith)), i .1))
