@@ -1,0 +1,13 @@
+pub mod Halving
+pub mod Pending
+pub mod RowPlaces
+pub mod Ticks
+pub mod Arrays
+pub mod TopGroup
+pub mod FirstChild
+pub mod NextGroup
+pub mod Stepping
+pub mod Running
+pub mod Paths
+pub mod Same
+pub mod Told

@@ -1,0 +1,66 @@
+use native.Mathlib.Omega.{arith}
+use mathlib.Core.Path.{_≡_, sym, ap, _∙_}
+use Prim.Native.Nat.{ℕ, _≤_, _-_, _+_, _*_}
+use lib.ListN.{take, getD}
+use Rattle.walk.specs.Rows.{loadsAt}
+use Rattle.walk.specs.Lent.{light}
+use Rattle.walk.proofs.Ticks.{loads-none, loads-more}
+use Rattle.walk.proofs.overload.loads_at.Statement.{statement}
+use Rattle.walk.proofs.overload.loads_at.Tie as tie
+
+abbrev Inv-loop : tie.InvT-loop
+Inv-loop work base h d t sum₀ j₀ sum j = (j ≤ h) × (sum ≡ loadsAt work (take j base) t) × (sum ≤ light * j)
+
+abbrev μ-loop : tie.MeasureT-loop
+μ-loop work base h d t sum₀ j₀ sum j = h - j
+
+loop-holds : tie.Need-loop-holds Inv-loop μ-loop
+loop-holds c = (omega arith, loads-none (c .args .work .now) (c .args .base .now) (c .args .t), omega arith)
+
+mul-i : tie.Need-mul-i Inv-loop μ-loop
+mul-i c = omega arith
+
+element-copy-out-i : tie.Need-element-copy-out-i Inv-loop μ-loop
+element-copy-out-i c = omega arith
+
+add-i : tie.Need-add-i Inv-loop μ-loop
+add-i c = let l = c .before .before in let s = l .before in let i = s .pre .2 .within (l .loop .j) (omega arith) in omega arith
+
+mul-sum : tie.Need-mul-sum Inv-loop μ-loop
+mul-sum c = let l = c .before .before in let s = l .before in let i = s .pre .2 .within (l .loop .j) (omega arith) in omega arith
+
+shared-slice-read-sum : tie.Need-shared-slice-read-sum Inv-loop μ-loop
+shared-slice-read-sum c = let l = c .before .before .before in let s = l .before in let i = s .pre .2 .within (l .loop .j) (omega arith) in omega arith
+
+add-sum : tie.Need-add-sum Inv-loop μ-loop
+add-sum c = let l = c .before .before .before in let s = l .before in let w = s .pre .2 .cells (l .loop .j) (omega arith) (s .args .t) (s .pre .1) in omega arith
+
+add-j : tie.Need-add-j Inv-loop μ-loop
+add-j c = omega arith
+
+loop-less : tie.Need-loop-less Inv-loop μ-loop
+loop-less c = omega arith
+
+loop-again : tie.Need-loop-again Inv-loop μ-loop
+loop-again c = let l = c .before .before .before in let s = l .before in let a = s .args in let w = s .pre .2 .cells (l .loop .j) (omega arith) (s .args .t) (s .pre .1) in (omega arith, ap (λ (z : ℕ). z + getD (a .work .now) (getD (a .base .now) (l .loop .j) 0 + a .t) 0) (l .loop .inv .1) ∙ sym (loads-more (a .work .now) (a .base .now) (a .t) (l .loop .j) (omega arith)), omega arith)
+
+returns : tie.Need-returns Inv-loop μ-loop
+returns c = let l = c .before in let a = l .before .args in let e : l .loop .j ≡ a .h = omega arith in (l .loop .inv .1 ∙ ap (λ (z : ℕ). loadsAt (a .work .now) (take z (a .base .now)) (a .t)) e, omega arith)
+
+pub loads-at-spec : {M : Type 1} → statement M
+loads-at-spec =
+    tie.close
+    (tie.spec
+    Inv-loop
+    μ-loop
+    loop-holds
+    mul-i
+    element-copy-out-i
+    add-i
+    mul-sum
+    shared-slice-read-sum
+    add-sum
+    add-j
+    loop-less
+    loop-again
+    returns)

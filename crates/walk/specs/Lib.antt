@@ -1,0 +1,5 @@
+pub mod Ranges
+pub mod Rows
+pub mod Steps
+pub mod Lent
+pub mod Told

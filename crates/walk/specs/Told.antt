@@ -1,0 +1,42 @@
+-- What the walk over rows says of a top group of paths, whatever the paths X and their loads. Assumes nothing.
+use mathlib.Core.Path.{_≡_}
+use Prim.Native.Nat.{ℕ, suc, _+_, _≤_, _<_}
+use mathlib.Core.Option.{none, some}
+use mathlib.Core.List.{List, [], _∷_, _++_, map}
+use lib.ListN.{length, take, drop, getD}
+use Rattle.meaning.specs.Groups.{rangeLoad, count, witness}
+use Rattle.walk.specs.declared.Ending.{Ending}
+use Rattle.walk.specs.declared.Ending.the-variants.{Meets, Misses, Unfinished}
+use Rattle.walk.specs.Ranges.{Range, range, Node}
+use Rattle.walk.specs.Rows.{rowStart}
+
+module _ {X : Type 0} where
+  abbrev pub sizes : List (List X) → List ℕ
+  sizes Gs = map length Gs
+
+  -- the paths of a range
+  abbrev pub partOf : List X → Range → List X
+  partOf G x = take (x .len) (drop (x .first) G)
+
+  -- the paths at these places, one of each range
+  abbrev pub chosen : List (List X) → List ℕ → List X
+  chosen [] ps = []
+  chosen (G ∷ Gs) [] = []
+  chosen (G ∷ Gs) (p ∷ ps) = take 1 (drop p G) ++ chosen Gs ps
+
+  -- each place is that of a path
+  abbrev pub AtPaths : List (List X) → List ℕ → Type 0
+  AtPaths Gs ps = (j : ℕ) → j < length Gs → getD ps j 0 < length (getD Gs j [])
+
+module _ {X : Type 0} (load : X → ℕ → ℕ) where
+  -- the row of each range of each task holds the range's load at each tick from 1 to d
+  abbrev pub RowsHold : ℕ → List ℕ → List ℕ → List (List X) → Type 0
+  RowsHold d work root Gs =
+      (j : ℕ) → j < length Gs → (f m : ℕ) → Node 0 (length (getD Gs j [])) f m → (t : ℕ) → t < d
+      → getD work (rowStart d (getD root j 0) (range f m) + t) 0 ≡ rangeLoad load (partOf (getD Gs j []) (range f m)) (suc t)
+
+  -- unfinished with the budget b exactly if it is below C; else C, and the witness at its places if there is one
+  abbrev pub Says : ℕ → ℕ → ℕ → List (List X) → Ending → List ℕ → Type 0
+  Says e d b Gs (Meets n) ps = (count load e d Gs ≤ b) × (n ≡ count load e d Gs) × (witness load e d Gs ≡ none)
+  Says e d b Gs (Misses n) ps = (count load e d Gs ≤ b) × (n ≡ count load e d Gs) × (witness load e d Gs ≡ some (chosen Gs ps)) × AtPaths Gs ps
+  Says e d b Gs (Unfinished n) ps = (b < count load e d Gs) × (n ≡ b)
