@@ -107,7 +107,7 @@ module _ (t : Table) (k : Held t) (h d : ℕ) (l : h < t .n) (a : Above) (c : Co
         let f = b .starts j (omega arith) in
         let n = counts-length t k h d l in
         let to : getD (a .roots) j 0 + (2 * getD (a .counts) j 0 - 1) * d ≡ rowsIn (take (j + 1) ns) * d = (
-          ap₂ (λ (u v : ℕ). u + (2 * v - 1) * d) f q ∙ sym (add-mul (rowsIn (take j ns)) (2 * getD ns j 0 - 1) d) ∙ ap (λ (r : ℕ). r * d) (sym (rows-more ns j (omega arith)))
+        ap₂ (λ (u v : ℕ). u + (2 * v - 1) * d) f q ∙ sym (add-mul (rowsIn (take j ns)) (2 * getD ns j 0 - 1) d) ∙ ap (λ (r : ℕ). r * d) (sym (rows-more ns j (omega arith)))
         ) in
         record {
           some = omega (arith, q, count-some t k h d l j m);
@@ -153,9 +153,9 @@ module _ (t : Table) (k : Held t) (h d : ℕ) (l : h < t .n) (a : Above) (c : Co
         let long : length ys ≡ size = ap length e ∙ stretch-length (taskOf (getD (t .tasks) j z)) d (omega (arith, count-at t k h d l z j m, x .paths, x .some)) ∙ ap (λ (n : ℕ). (2 * n - 1) * d) (count-at t k h d l z j m ∙ sym (x .paths)) in
         let next : sofar j ++ ys ≡ sofar (j + 1) = ap (λ (v : List ℕ). sofar j ++ v) e ∙ sym (sofar-more z j m) in
         let cells : take from now ++ (ys ++ drop (from + size - from) (drop from now)) ≡ written (sofar (j + 1)) P = (
-          ap₂ (λ (n : ℕ) (v : List ℕ). take from v ++ (ys ++ drop n (drop from v))) to (f .cells)
-          ∙ part-next (sofar j) ys P from size start long (le-trans (x .within) room)
-          ∙ ap (λ (v : List ℕ). written v P) next
+        ap₂ (λ (n : ℕ) (v : List ℕ). take from v ++ (ys ++ drop n (drop from v))) to (f .cells)
+        ∙ part-next (sofar j) ys P from size start long (le-trans (x .within) room)
+        ∙ ap (λ (v : List ℕ). written v P) next
         ) in
         record {
           low = omega arith;
@@ -177,9 +177,14 @@ module _ (t : Table) (k : Held t) (h d : ℕ) (l : h < t .n) (a : Above) (c : Co
     fill-asks z {now} {j} f m o =
         let x = at j m in
         let from = getD (a .roots) j 0 in
-        let size = (2 * getD (a .counts) j 0 - 1) * d in
-        (
+        let size = (2 * getD (a .counts) j 0 - 1) * d in (
           held-ready t k z j (omega arith),
-          (o, c .calm .short, omega (arith, x .few), x .some, x .paths ∙ sym (count-at t k h d l z j m),
-          length-take-le (from + size - from) (drop from now) (omega (arith, length-drop from now, f .same, x .within, room)) ∙ omega arith),
+          (
+            o,
+            c .calm .short,
+            omega (arith, x .few),
+            x .some,
+            x .paths ∙ sym (count-at t k h d l z j m),
+            length-take-le (from + size - from) (drop from now) (omega (arith, length-drop from now, f .same, x .within, room)) ∙ omega arith,
+          ),
         )

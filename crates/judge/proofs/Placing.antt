@@ -27,7 +27,7 @@ placing-more {xs} {before} {now} {from} {i} v p h e =
     let short = length-take-le i xs (p .low) in
     let more : take (i + 1) xs ≡ take i xs ++ (v ∷ []) = rw (add-one i, take-suc xs i 0 h) (ap (λ (n : ℕ). take i xs ++ (n ∷ [])) (sym e)) in
     let cells : set now (from + i) v ≡ sets before from (take (i + 1) xs) = (
-      ap₂ (λ (l : List ℕ) (n : ℕ). set l (from + n) v) (p .cells) (sym short) ∙ sym (sets-append before from (take i xs) (v ∷ [])) ∙ ap (sets before from) (sym more)
+    ap₂ (λ (l : List ℕ) (n : ℕ). set l (from + n) v) (p .cells) (sym short) ∙ sym (sets-append before from (take i xs) (v ∷ [])) ∙ ap (sets before from) (sym more)
     ) in
     record { low = omega arith; room = p .room; same = ap length cells ∙ length-sets before from (take (i + 1) xs); cells = cells }
 

@@ -117,8 +117,7 @@ module _ (t : Table) (k : Held t) (h d : ℕ) (l : h < t .n) (o : 0 < d) (u : d 
     unfolding pathOf
     path-asks =
         let long : r .len ≡ length (pathOf z j) = ap (λ (x : Lister.Path). x .len) e ∙ record-len (pathOf z j) in
-        let s = path-short z j m in
-        (
+        let s = path-short z j m in (
           omega arith,
           ap (λ (x : Lister.Path). length (x .vertices)) e ∙ record-size (pathOf z j) (omega arith),
           omega (arith, w .short, w .same, row-fits j m, suc-mul j (1 + d)),
@@ -130,9 +129,9 @@ module _ (t : Table) (k : Held t) (h d : ℕ) (l : h < t .n) (o : 0 < d) (u : d 
         let cells : pathCells r ≡ length (pathOf z j) ∷ pathOf z j = ap pathCells e ∙ record-cells (pathOf z j) in
         let there : j < length (pathsAt ks d ps) = omega (arith, paths-length ks d ps (omega (arith, many, few)), many) in
         let more : cellsOf (take (j + 1) (pathsAt ks d ps)) ≡ cellsOf (take j (pathsAt ks d ps)) ++ pathCells r = (
-          rw (add-one j, take-suc (pathsAt ks d ps) j [] there)
-          (gather-append (λ (x : Path). length x ∷ x) (take j (pathsAt ks d ps)) (getD (pathsAt ks d ps) j [] ∷ [])
-          ∙ ap (λ (x : List ℕ). cellsOf (take j (pathsAt ks d ps)) ++ x) (append-nil _ ∙ ap (λ (x : Path). length x ∷ x) (path-is z j m) ∙ sym cells))
+        rw (add-one j, take-suc (pathsAt ks d ps) j [] there)
+        (gather-append (λ (x : Path). length x ∷ x) (take j (pathsAt ks d ps)) (getD (pathsAt ks d ps) j [] ∷ [])
+        ∙ ap (λ (x : List ℕ). cellsOf (take j (pathsAt ks d ps)) ++ x) (append-nil _ ∙ ap (λ (x : Path). length x ∷ x) (path-is z j m) ∙ sym cells))
         ) in
         record {
           low = omega arith;

@@ -12,20 +12,11 @@ use Rattle.meaning.specs.Paths.{Path, load, pathsOf}
 use Rattle.meaning.specs.Groups.{half, firstPart, secondPart, rangeLoad}
 use Rattle.meaning.specs.Verdict.{Listed, loadOf, listed}
 use Rattle.lister.proofs.PathsAreWays.{map-map}
-use Rattle.ranges.specs.Stretch.{topRow, stretchCells, inOrder, rangeRow, stretchOf}
-use Rattle.ranges.specs.Node.{Node, top, low, high}
-use Rattle.ranges.proofs.Rows.{inOrder-two, first-length, second-length, order-length, order-row, top-below, drop-take}
+use Rattle.ranges.specs.Stretch.{stretchCells, inOrder, rangeRow, stretchOf}
+use Rattle.rows.specs.Order.{topRow, Node, top, low, high}
+use Rattle.ranges.proofs.Rows.{inOrder-two, first-length, second-length, order-length, order-row, drop-take}
+use Rattle.rows.proofs.Order.{node-in, node-pos, top-in}
 use Rattle.ranges.proofs.WholeStretch.{ticks-length, take-map, drop-map}
-
-pub node-in : {a n f m : ℕ} → Node a n f m → (a ≤ f) × (f + m ≤ a + n)
-node-in (top p q) = (omega arith, omega arith)
-node-in (low h x) = let r = node-in x in (omega arith, omega arith)
-node-in (high h x) = let r = node-in x in (omega arith, omega arith)
-
-pub node-pos : {a n f m : ℕ} → Node a n f m → 0 < n → 0 < m
-node-pos (top p q) l = omega arith
-node-pos (low h x) l = node-pos x (omega arith)
-node-pos (high h x) l = node-pos x (omega arith)
 
 module _ {X : Type 0} (row : List X → List ℕ) (d : ℕ) (hr : (ys : List X) → length (row ys) ≡ d) where
   -- the row of number i
@@ -59,7 +50,7 @@ module _ {X : Type 0} (row : List X → List ℕ) (d : ℕ) (hr : (ys : List X) 
       let b = node-in x in
       let c = first-length row xs in
       let k : half (length xs) ≡ half n = ap half l in
-      let t = top-below m (node-pos x (omega arith)) in
+      let t = top-in m (node-pos x (omega arith)) in
       ap (rowAt (2 * (f - a) + topRow m)) (inOrder-two row turns xs (omega arith))
       ∙ row-first (2 * (f - a) + topRow m) (inOrder row turns (firstPart xs)) (row xs ++ inOrder row turns (secondPart xs)) (length (firstPart xs)) (order-length row d hr turns (firstPart xs) (omega arith) (omega arith)) (omega arith)
       ∙ node-row x turns (firstPart xs) (c ∙ k) (omega arith) (omega arith)

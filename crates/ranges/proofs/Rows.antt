@@ -1,26 +1,19 @@
 -- The rows of a range and its parts, in order. Assumes nothing.
 use mathlib.Core.Path.{_≡_, refl, sym, ap, ap₂, _∙_}
-use Prim.Native.Nat.{ℕ, zero, suc, _+_, _-_, _*_, _/_, _≤_, _<_}
-use native.Mathlib.Nat.{add-mul, one-mul, zero-mul, le-trans, mul-le-mul-right}
+use Prim.Native.Nat.{ℕ, zero, suc, _+_, _-_, _*_, _≤_, _<_}
+use native.Mathlib.Nat.{add-mul, one-mul, zero-mul, le-trans, mul-le-mul-right, suc-mul}
 use native.Mathlib.Omega.{arith}
 use native.Mathlib.Decide.{decLt}
 use borrow.Author.Tests.{lt-ltb, le-ltb}
-use mathlib.Core.Bool.{Bool, true, false}
+use mathlib.Core.Bool.{Bool}
 use mathlib.Core.List.{List, [], _∷_, _++_}
-use lib.Dec.{ltb}
 use lib.ListN.{length, take, drop, length-append, length-drop}
 use lib.Seq.{length-take-le, take-at, drop-at, take-all, take-nil}
 use Rattle.meaning.specs.Lists.{pick}
 use Rattle.meaning.specs.Groups.{half, firstPart, secondPart}
-use Rattle.ranges.specs.Stretch.{topRow, stretchCells, inside, inOrder}
-
-pub top-one : (n : ℕ) → n ≡ 1 → 0 ≡ topRow n
-top-one n h = sym (ap (λ (b : Bool). pick b (2 * half n - 1) 0) (le-ltb 1 n (omega arith)))
-
-pub top-two : (n : ℕ) → 1 < n → 2 * (n - n / 2) - 1 ≡ topRow n
-top-two n h =
-    let z : 2 * (n - n / 2) - 1 ≡ 2 * half n - 1 = omega arith in
-    z ∙ sym (ap (λ (b : Bool). pick b (2 * half n - 1) 0) (lt-ltb 1 n h))
+use Rattle.ranges.specs.Stretch.{stretchCells, inside, inOrder}
+use Rattle.rows.specs.Order.{topRow}
+use Rattle.rows.proofs.Order.{top-in}
 
 -- ---- rows in order
 
@@ -96,14 +89,8 @@ module _ {X : Type 0} (row : List X → List ℕ) where
               ∙ ap (take d) (inOrder-one (suc n) xs (omega arith)) ∙ take-all d (row xs) (omega (arith, hr xs))
         ]
 
-pub top-below : (c : ℕ) → 0 < c → topRow c + 1 ≤ 2 * c - 1
-top-below c h = elim (decLt 1 c) [
-  | yes l ↦ omega (arith, top-two c l)
-  | no l ↦ omega (arith, top-one c (omega arith))
-]
-
 pub top-fits : (d c : ℕ) → 0 < c → topRow c * d + d ≤ stretchCells d c
-top-fits d c h = le-trans (omega (arith, add-mul (topRow c) 1 d, one-mul d)) (mul-le-mul-right {m = topRow c + 1} d (top-below c h))
+top-fits d c h = le-trans (omega (arith, suc-mul (topRow c) d)) (mul-le-mul-right {m = suc (topRow c)} d (top-in c h))
 
 pub drop-take : {X : Type 0} (k n : ℕ) (l : List X) → drop k (take n l) ≡ take (n - k) (drop k l)
 drop-take zero n l = let z : n - 0 ≡ n = omega arith in rw z

@@ -4,18 +4,14 @@ use mathlib.Core.Bool.{Bool, true, false}
 use mathlib.Core.List.{List, [], _∷_, _++_, map}
 use lib.Dec.{ltb}
 use lib.ListN.{length, take, drop, replicate}
-use Rattle.meaning.specs.Lists.{pick, ticks}
+use Rattle.meaning.specs.Lists.{ticks}
 use Rattle.meaning.specs.Table.{Task}
 use Rattle.meaning.specs.Paths.{Path, load, pathsOf}
-use Rattle.meaning.specs.Groups.{half, firstPart, secondPart, rangeLoad}
+use Rattle.meaning.specs.Groups.{firstPart, secondPart, rangeLoad}
 
 -- a range of n paths has 2n - 1 rows: its own, and those of its parts
 abbrev pub stretchCells : ℕ → ℕ → ℕ
 stretchCells d n = (2 * n - 1) * d
-
--- which of them is its own: those of the first part stand before it
-abbrev pub topRow : ℕ → ℕ
-topRow len = pick (ltb 1 len) (2 * half len - 1) 0
 
 module _ {X : Type 0} (row : List X → List ℕ) where
   abbrev pub inside : Bool → List ℕ → List ℕ → List ℕ → List ℕ

@@ -5,6 +5,7 @@
 // So the path of place i has row 2i, and the range of len paths from place first on has row 2 first + top_row(len).
 use kinds::Ticks;
 use lister::path_rows;
+use rows::top_row;
 use table::Task;
 ghost use mathlib.Core.Path.{_≡_};
 ghost use Prim.Native.Nat.{_+_, _≤_, _<_, max};
@@ -14,7 +15,7 @@ ghost use Rattle.meaning.specs.Bounds.{largestD};
 ghost use Rattle.meaning.specs.Paths.{pathsOf};
 ghost use Rattle.table.specs.Record.{taskOf};
 ghost use Rattle.lister.specs.Columns.{Ready, mostCounted};
-ghost use Rattle.ranges.specs.Stretch.{largerCells, largestRow, topRow, stretchCells, singleRows, inOrder, stretchOf};
+ghost use Rattle.ranges.specs.Stretch.{largerCells, largestRow, stretchCells, singleRows, inOrder, stretchOf};
 
 fn larger(x: u32, y: u32) -> u32
     ensures { λ r. ⌜ r ≡ max x y ⌝ }
@@ -35,17 +36,6 @@ fn larger_row(part: &mut [u32], o: usize, a: usize, b: usize, d: usize)
         part[o + t] = larger(part[a + t], part[b + t]);
         t += 1;
     }
-}
-
-// Which of the rows of a range of len paths is its own.
-fn top_row(len: usize) -> usize
-    requires { ⌜ (0 < len) × (len ≤ mostCounted) ⌝ }
-    ensures { λ r. ⌜ r ≡ topRow len ⌝ }
-{
-    if len == 1 {
-        return 0;
-    }
-    2 * (len - len / 2) - 1
 }
 
 // Fills the rows between those of the single paths.

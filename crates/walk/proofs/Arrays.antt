@@ -5,11 +5,12 @@ use native.Mathlib.Omega.{arith}
 use mathlib.Core.List.{List, [], _∷_}
 use lib.ListN.{length, take, getD, set, length-set}
 use lib.Seq.{getD-take, take-set-lt, drop-set-lt, length-take-le, set-getD}
-use Rattle.walk.specs.Ranges.{Range, range, Node, firsts, InWalk}
+use Rattle.walk.specs.Ranges.{Range, range, firsts, InWalk}
+use Rattle.rows.specs.Order.{Node}
 use Rattle.walk.specs.Rows.{rowStart, rowStarts}
 use Rattle.walk.specs.Steps.{mostHigher}
 use Rattle.walk.specs.Lent.{paired, groupIn, Holds, Ready, Stands}
-use Rattle.walk.proofs.Halving.{node-in, node-pos}
+use Rattle.rows.proofs.Order.{node-in, node-pos}
 
 -- what is read where there is no range
 abbrev pub noRange : Range

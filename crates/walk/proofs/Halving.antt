@@ -10,19 +10,11 @@ use lib.Dec.{ltb}
 use borrow.Author.Tests.{lt-ltb, le-ltb, ltb-true, ltb-false, eq-eqb, ne-eqb}
 use Rattle.meaning.specs.Lists.{pick}
 use Rattle.meaning.specs.Groups.{half}
-use Rattle.walk.specs.Ranges.{Range, range, Node, top, low, high, restBy, restLength}
+use Rattle.walk.specs.Ranges.{Range, range, restBy, restLength}
+use Rattle.rows.specs.Order.{Node, top, low, high}
+use Rattle.rows.proofs.Order.{node-in}
 
 -- ---- where a node lies
-
-pub node-in : {a n f m : ℕ} → Node a n f m → (a ≤ f) × (f + m ≤ a + n)
-node-in (top p q) = (omega arith, omega arith)
-node-in (low h x) = let r = node-in x in (omega arith, omega arith)
-node-in (high h x) = let r = node-in x in (omega arith, omega arith)
-
-pub node-pos : {a n f m : ℕ} → Node a n f m → 0 < n → 0 < m
-node-pos (top p q) l = omega arith
-node-pos (low h x) l = node-pos x (omega arith)
-node-pos (high h x) l = node-pos x (omega arith)
 
 pub node-first-half : {a n f m : ℕ} → Node a n f m → 1 < m → Node a n f (half m)
 node-first-half {a} {n} {f} {m} (top p q) l = low {n = n} (omega arith) (top p (ap half q))

@@ -11,7 +11,8 @@ use lib.Seq.{getD-take, length-take-le, take-suc, set-at, take-all, drop-cons}
 use borrow.Author.Tests.{lt-ltb, le-ltb}
 use Rattle.meaning.specs.Bounds.{largestD, mostPaths}
 use Rattle.walk.specs.declared.Examined.the-variants.{Next, Last}
-use Rattle.walk.specs.Ranges.{Range, range, endOf, top, restLength, topGroup, nextGroup}
+use Rattle.walk.specs.Ranges.{Range, range, endOf, restLength, topGroup, nextGroup}
+use Rattle.rows.specs.Order.{top}
 use Rattle.walk.specs.Rows.{rowStart}
 use Rattle.walk.specs.Steps.{onward}
 use Rattle.walk.specs.Lent.{largestIndex, groupIn, Ready, Stands, Stepped}

@@ -12,10 +12,11 @@ use borrow.Author.Tests.{ltb-false}
 use Rattle.meaning.specs.Groups as Meant
 use Rattle.meaning.specs.Groups.{half, firstPart, secondPart, long, single, groupLoads, overloads}
 use Rattle.meaning.specs.Walk.{heads}
-use Rattle.walk.specs.Ranges.{Range, endOf, firstHalf, secondHalf, Node, firsts, topGroup, allSingle, childBy, InWalk}
+use Rattle.walk.specs.Ranges.{Range, endOf, firstHalf, secondHalf, firsts, topGroup, allSingle, childBy, InWalk}
+use Rattle.rows.specs.Order.{Node}
 use Rattle.walk.specs.Rows.{loadsAt, rowStarts, rowsOverload, groupOverloads}
 use Rattle.walk.specs.Told.{sizes, partOf, chosen, AtPaths, RowsHold}
-use Rattle.walk.proofs.Halving.{node-in, node-pos}
+use Rattle.rows.proofs.Order.{node-in, node-pos}
 use Rattle.walk.proofs.Ticks.{exceeds-same}
 
 module _ {X : Type 0} where

@@ -8,8 +8,10 @@ use mathlib.Core.List.{List, [], _∷_, _++_, map}
 use lib.Dec.{ltb}
 use borrow.Author.Tests.{ltb-true, ltb-false}
 use Rattle.meaning.specs.Lists.{pick}
-use Rattle.walk.specs.Ranges.{Range, range, endOf, firstHalf, top, restLength, topGroup, allSingle, firstChild, secondChild, nextBy, nextGroup, InWalk}
-use Rattle.walk.proofs.Halving.{node-pos, node-first-half, restsBehind, rests-end, split-next, NextOne, rest-next}
+use Rattle.walk.specs.Ranges.{Range, range, endOf, firstHalf, restLength, topGroup, allSingle, firstChild, secondChild, nextBy, nextGroup, InWalk}
+use Rattle.rows.specs.Order.{top}
+use Rattle.walk.proofs.Halving.{node-first-half, restsBehind, rests-end, split-next, NextOne, rest-next}
+use Rattle.rows.proofs.Order.{node-pos}
 
 -- every task has a path
 abbrev pub Filled : List ℕ → Type 0

@@ -11,19 +11,13 @@ use borrow.Author.Tests.{ltb-true}
 use Rattle.meaning.specs.Bounds.{largestD, mostPaths}
 use Rattle.meaning.specs.Lists.{pick}
 use Rattle.meaning.specs.Groups.{half}
-use Rattle.walk.specs.Ranges.{range, Node}
-use Rattle.walk.specs.Rows.{topRow, rowOf, rowStart}
+use Rattle.walk.specs.Ranges.{range}
+use Rattle.rows.specs.Order.{Node, topRow}
+use Rattle.walk.specs.Rows.{rowOf, rowStart}
 use Rattle.walk.specs.Lent.{largestIndex, Stretches}
-use Rattle.walk.proofs.Halving.{node-in, node-pos}
+use Rattle.rows.proofs.Order.{node-in, node-pos, top-in}
 
 -- a range's own rows: one fewer than twice its paths
-pub top-in : (n : ℕ) → 0 < n → suc (topRow n) ≤ 2 * n - 1
-top-in n p = go (ltb 1 n) refl
-  where
-    go : (v : Bool) → ltb 1 n ≡ v → suc (pick v (2 * half n - 1) 0) ≤ 2 * n - 1
-    go true e = omega (arith, ltb-true 1 n e)
-    go false e = omega arith
-
 pub top-small : (n : ℕ) → topRow n ≤ 2 * n
 top-small n = go (ltb 1 n) refl
   where

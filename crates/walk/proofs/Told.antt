@@ -8,7 +8,8 @@ use lib.Seq.{getD-take, length-take-le, drop-cons}
 use Rattle.meaning.specs.Groups.{rangeLoad}
 use Rattle.meaning.proofs.Lists.{mem-take}
 use Rattle.walk.specs.declared.Walked.{Walked}
-use Rattle.walk.specs.Ranges.{range, Node, topGroup}
+use Rattle.walk.specs.Ranges.{range, topGroup}
+use Rattle.rows.specs.Order.{Node}
 use Rattle.walk.specs.Rows.{groupOverloads}
 use Rattle.walk.specs.Steps.{mostHigher, runRows}
 use Rattle.walk.specs.Lent.{light, Stretches, Walkable}

@@ -5,7 +5,8 @@ use mathlib.Core.List.{List, [], _∷_}
 use lib.ListN.{length, take, drop, getD}
 use Rattle.meaning.specs.Bounds.{largestD, mostPaths}
 use Rattle.walk.specs.declared.Examined.{Examined}
-use Rattle.walk.specs.Ranges.{Range, range, Node, InWalk}
+use Rattle.walk.specs.Ranges.{Range, range, InWalk}
+use Rattle.rows.specs.Order.{Node}
 use Rattle.walk.specs.Rows.{rowStart, rowStarts}
 use Rattle.walk.specs.Steps.{mostHigher, Step}
 

@@ -7,6 +7,7 @@ use mathlib.Core.List.{List, [], _∷_, map}
 use lib.Dec.{ltb, eqb}
 use Rattle.meaning.specs.Lists.{pick, all}
 use Rattle.meaning.specs.Groups.{half}
+use Rattle.rows.specs.Order.{Node}
 
 -- ---- a range: so many paths from the place first on
 
@@ -27,12 +28,6 @@ firstHalf x = range (x .first) (half (x .len))
 
 abbrev pub secondHalf : Range → Range
 secondHalf x = range (x .first + half (x .len)) (x .len - half (x .len))
-
--- the halving tree of n paths from a on has a node of m paths from f on
-pub data Node : ℕ → ℕ → ℕ → ℕ → Type 0 where
-  top : {a n f m : ℕ} → f ≡ a → m ≡ n → Node a n f m
-  low : {a n f m : ℕ} → 1 < n → Node a (half n) f m → Node a n f m
-  high : {a n f m : ℕ} → 1 < n → Node (a + half n) (n - half n) f m → Node a n f m
 
 -- the length of the rest that begins at s, where a node of the halving tree of n paths from a on splits; each split halves n, so n turns are enough
 abbrev pub restBy : ℕ → ℕ → ℕ → ℕ → ℕ

@@ -4,14 +4,10 @@ use Prim.Native.Nat.{ℕ, _+_, _-_, _*_}
 use mathlib.Core.Bool.{Bool}
 use mathlib.Core.List.{List, [], _∷_, map}
 use lib.ListN.{getD}
-use lib.Dec.{ltb}
-use Rattle.meaning.specs.Lists.{pick, sum}
-use Rattle.meaning.specs.Groups.{half, exceeds}
+use Rattle.meaning.specs.Lists.{sum}
+use Rattle.meaning.specs.Groups.{exceeds}
+use Rattle.rows.specs.Order.{topRow}
 use Rattle.walk.specs.Ranges.{Range}
-
--- the row of a range of n paths, from its first path's row on
-abbrev pub topRow : ℕ → ℕ
-topRow n = pick (ltb 1 n) (2 * half n - 1) 0
 
 abbrev pub rowOf : Range → ℕ
 rowOf x = 2 * x .first + topRow (x .len)

@@ -1,23 +1,13 @@
 // Where the row of a range begins, and the top group: "The top group takes all."
+use rows::top_row;
 ghost use mathlib.Core.Path.{_≡_};
 ghost use Prim.Native.Nat.{ℕ, _+_, _*_, _-_, _≤_, _<_};
 ghost use lib.ListN.{length, take, getD};
 ghost use Rattle.meaning.specs.Bounds.{largestD, mostPaths};
 ghost use Rattle.walk.specs.Ranges.{range, topGroup};
-ghost use Rattle.walk.specs.Rows.{topRow, rowStart};
+ghost use Rattle.walk.specs.Rows.{rowStart};
 ghost use Rattle.walk.specs.Steps.{mostHigher};
 ghost use Rattle.walk.specs.Lent.{largestIndex, Stretches, Stands};
-
-// The row of a range of n paths, from its first path's row on.
-fn top_row(n: usize) -> usize
-    requires { ⌜ n ≤ mostPaths ⌝ }
-    ensures { λ r. ⌜ r ≡ topRow n ⌝ }
-{
-    if 1 < n {
-        return 2 * (n - n / 2) - 1;
-    }
-    0
-}
 
 pub(crate) fn row_start(root: usize, first: usize, n: usize, d: usize) -> usize
     requires { ⌜ (first + n ≤ mostPaths) × (d ≤ largestD) × (rowStart d root (range first n) ≤ largestIndex) ⌝ }

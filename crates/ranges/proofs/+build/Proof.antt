@@ -16,7 +16,7 @@ use Rattle.ranges.proofs.build.Reads as build
 use Rattle.ranges.proofs.build.Kinds as build-kinds
 use Rattle.ranges.proofs.+build.Lts-build as build-lts
 use Rattle.ranges.proofs.larger_row.Reads as larger-row-reads
-use Rattle.ranges.proofs.top_row.Reads as top-row-reads
+use Rattle.rows.proofs.top_row.Reads as top-row-reads
 use Rattle.ranges.proofs.+build.{statement}
 use Rattle.ranges.proofs.+build.Tie.{close}
 
@@ -113,7 +113,7 @@ build-build-requires-2 t c κs =
     (omega arith, (omega arith, omega arith, omega arith, second-size (s .args .d) (s .args .len) (s .args .part .now) (c .before .before .before .build .last .0) (omega arith) (s .pre .1 .3) (c .before .before .before .build .ensures)))
 
 build-top-row-requires : (t : ℕ) → build-lts.Need-top-row-requires (claims t) (build-at t) build.Post
-build-top-row-requires t c κs = (omega arith, omega arith)
+build-top-row-requires t c κs = tt
 
 build-mul-larger-row : (t : ℕ) → build-lts.Need-mul-larger-row (claims t) (build-at t) build.Post
 build-mul-larger-row t c =
@@ -126,7 +126,7 @@ build-sub-top-row : (t : ℕ) → build-lts.Need-sub-top-row (claims t) (build-a
 build-sub-top-row t c = omega arith
 
 build-top-row-requires-2 : (t : ℕ) → build-lts.Need-top-row-requires-2 (claims t) (build-at t) build.Post
-build-top-row-requires-2 t c κs = (omega arith, omega arith)
+build-top-row-requires-2 t c κs = tt
 
 build-mul-larger-row-2 : (t : ℕ) → build-lts.Need-mul-larger-row-2 (claims t) (build-at t) build.Post
 build-mul-larger-row-2 t c =

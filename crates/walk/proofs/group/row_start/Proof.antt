@@ -2,7 +2,8 @@ use native.Mathlib.Omega.{arith}
 use mathlib.Core.Path.{_≡_, ap}
 use Prim.Native.Nat.{_+_, _*_, _≤_}
 use Rattle.meaning.specs.Bounds.{largestD, mostPaths}
-use Rattle.walk.specs.Rows.{topRow, rowStart}
+use Rattle.walk.specs.Rows.{rowStart}
+use Rattle.rows.specs.Order.{topRow}
 use Rattle.walk.specs.Lent.{largestIndex}
 use Rattle.walk.proofs.RowPlaces.{top-small, row-small}
 use borrow.Author.Needs.{needs}

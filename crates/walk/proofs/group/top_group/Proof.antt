@@ -1,7 +1,7 @@
 use native.Mathlib.Omega.{arith}
 use mathlib.Core.Path.{refl}
 use Prim.Native.Nat.{_≤_, _-_}
-use Rattle.walk.specs.Ranges.{top}
+use Rattle.rows.specs.Order.{top}
 use Rattle.walk.proofs.RowPlaces.{row-asked}
 use Rattle.walk.proofs.TopGroup.{Begun, top-none, top-more, top-all}
 use Rattle.walk.proofs.group.top_group.Statement.{statement}
