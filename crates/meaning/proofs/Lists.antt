@@ -1,14 +1,16 @@
--- Laws of the words on lists: tests, members, the largest. Assumes nothing.
+-- Laws of the words on lists: tests, members, sums, the largest. Assumes nothing.
 use mathlib.Core.Path.{_≡_, refl, sym, ap, subst, _∙_}
-use Prim.Native.Nat.{ℕ, zero, suc, _+_, _≤_, _<_}
+use Prim.Native.Nat.{ℕ, zero, suc, _+_, _-_, _≤_, _<_}
 use native.Mathlib.Decide.{ℕ-discrete}
+use native.Mathlib.Nat.{sub-zero, zero-add}
 use native.Mathlib.Omega.{arith}
 use mathlib.Core.Bool.{Bool, true, false, _&&_}
 use mathlib.Core.Logic.{_⊎_, inl, inr}
 use mathlib.Core.List.{List, [], _∷_, _++_, map, append-assoc, List·Memᴰ, List·Memᴰ·head, List·Memᴰ·tail, Memᴰ·append-left, Memᴰ·append-right, List·Memᴰ·append-cases, List·Memᴰ·not-nil}
-use lib.ListN.{length, getD, take}
+use lib.ListN.{length, getD, take, drop}
+use lib.Seq.{take-nil}
 use lib.Dec.{T}
-use Rattle.meaning.specs.Lists.{pick, all, those, largest, gather, countFrom}
+use Rattle.meaning.specs.Lists.{pick, all, those, sum, largest, gather, countFrom}
 
 -- ---- tests
 
@@ -83,6 +85,18 @@ module _ {X : Type 0} where
   mem-getD z (x ∷ xs) zero h = List·Memᴰ·head refl
   mem-getD z (x ∷ xs) (suc i) h = List·Memᴰ·tail (mem-getD z xs i (omega arith))
 
+  pub mem-drop : (n : ℕ) (xs : List X) {x : X} → List·Memᴰ x (drop n xs) → List·Memᴰ x xs
+  mem-drop zero xs m = m
+  mem-drop (suc n) [] m = m
+  mem-drop (suc n) (y ∷ ys) m = List·Memᴰ·tail (mem-drop n ys m)
+
+  -- a run of neighbours, from its own place k on
+  pub drop-take : (k m : ℕ) (xs : List X) → drop k (take m xs) ≡ take (m - k) (drop k xs)
+  drop-take zero m xs = ap (λ (n : ℕ). take n xs) (sym (sub-zero m))
+  drop-take (suc k) zero xs = let e : 0 - suc k ≡ 0 = omega arith in rw e
+  drop-take (suc k) (suc m) [] = sym (take-nil (suc m - suc k))
+  drop-take (suc k) (suc m) (x ∷ xs) = let e : suc m - suc k ≡ m - k = omega arith in rw e (drop-take k m xs)
+
 -- ---- gather
 
 module _ {X Y : Type 0} where
@@ -112,6 +126,10 @@ module _ {X Y : Type 0} where
   map-append f (x ∷ xs) ys = ap (λ (l : List Y). f x ∷ l) (map-append f xs ys)
 
 -- ---- numbers
+
+pub sum-append : (xs ys : List ℕ) → sum (xs ++ ys) ≡ sum xs + sum ys
+sum-append [] ys = sym (zero-add _)
+sum-append (x ∷ xs) ys = omega (arith, sum-append xs ys)
 
 pub mem-largest : {x : ℕ} {xs : List ℕ} → List·Memᴰ x xs → x ≤ largest xs
 mem-largest (List·Memᴰ·head q) = omega arith

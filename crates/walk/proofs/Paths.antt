@@ -1,17 +1,17 @@
 -- A group of ranges stands for a group of paths: it is single, splits and overloads as that one. Assumes nothing.
 use mathlib.Core.Path.{_≡_, refl, sym, ap, ap₂, _∙_}
 use Prim.Native.Nat.{ℕ, zero, suc, _+_, _-_, _≤_, _<_}
-use native.Mathlib.Nat.{sub-zero}
 use native.Mathlib.Omega.{arith}
 use mathlib.Core.Bool.{Bool, true, false, true≢false}
 use mathlib.Core.List.{List, [], _∷_, _++_}
 use lib.ListN.{length, take, drop, length-take, length-drop}
-use lib.Seq.{take-take, drop-drop, take-all, take-nil}
+use lib.Seq.{take-take, drop-drop, take-all}
 use lib.Dec.{ltb}
 use borrow.Author.Tests.{ltb-false}
 use Rattle.meaning.specs.Groups as Meant
 use Rattle.meaning.specs.Groups.{half, firstPart, secondPart, long, single, groupLoads, overloads}
 use Rattle.meaning.specs.Walk.{heads}
+use Rattle.meaning.proofs.Lists.{drop-take}
 use Rattle.walk.specs.Ranges.{Range, endOf, firstHalf, secondHalf, firsts, topGroup, allSingle, childBy, InWalk}
 use Rattle.rows.specs.Order.{Node}
 use Rattle.walk.specs.Rows.{loadsAt, rowStarts, rowsOverload, groupOverloads}
@@ -29,12 +29,6 @@ module _ {X : Type 0} where
 
   part-length : (G : List X) (x : Range) → endOf x ≤ length G → length (partOf G x) ≡ x .len
   part-length G x h = simp (length-take, length-drop) (omega arith)
-
-  drop-take : (k m : ℕ) (l : List X) → drop k (take m l) ≡ take (m - k) (drop k l)
-  drop-take zero m l = ap (λ (n : ℕ). take n l) (sym (sub-zero m))
-  drop-take (suc k) zero l = let e : 0 - suc k ≡ 0 = omega arith in rw e
-  drop-take (suc k) (suc m) [] = sym (take-nil (suc m - suc k))
-  drop-take (suc k) (suc m) (x ∷ l) = let e : suc m - suc k ≡ m - k = omega arith in rw e (drop-take k m l)
 
   -- a half of a range stands for a part of its paths
   abbrev Half : (Range → Range) → (List X → List X) → Type 0

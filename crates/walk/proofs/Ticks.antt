@@ -1,25 +1,21 @@
 -- The overload test on rows, cell by cell and tick by tick. Assumes nothing.
-use mathlib.Core.Path.{_≡_, refl, sym, ap, ap₂, _∙_}
+use mathlib.Core.Path.{_≡_, refl, ap, ap₂, _∙_}
 use Prim.Native.Nat.{ℕ, zero, suc, _+_, _-_, _≤_, _<_}
-use native.Mathlib.Nat.{add-zero, zero-add}
+use native.Mathlib.Nat.{add-zero}
 use native.Mathlib.Omega.{arith}
 use native.Mathlib.Numerals.{add-one}
 use mathlib.Core.Bool.{Bool, true, false, _&&_}
-use mathlib.Core.List.{List, [], _∷_, _++_, map}
+use mathlib.Core.List.{List, [], _∷_, map}
 use lib.ListN.{length, take, getD}
 use lib.Seq.{take-suc}
 use lib.Dec.{ltb}
 use borrow.Author.Tests.{lt-ltb, le-ltb}
 use Rattle.meaning.specs.Lists.{all, sum, countFrom}
 use Rattle.meaning.specs.Groups.{exceeds}
-use Rattle.meaning.proofs.Lists.{map-append}
+use Rattle.meaning.proofs.Lists.{map-append, sum-append}
 use Rattle.walk.specs.Rows.{loadsAt, rowsOverload}
 
 -- ---- the sum, cell by cell
-
-sum-append : (xs ys : List ℕ) → sum (xs ++ ys) ≡ sum xs + sum ys
-sum-append [] ys = sym (zero-add _)
-sum-append (x ∷ xs) ys = omega (arith, sum-append xs ys)
 
 pub loads-none : (work base : List ℕ) (t : ℕ) → 0 ≡ loadsAt work (take 0 base) t
 unfolding loadsAt

@@ -6,7 +6,7 @@ use mathlib.Core.List.{List, [], _∷_, _++_, List·Memᴰ, List·Memᴰ·head, 
 use lib.ListN.{length, take, drop, getD, List·getD-map}
 use lib.Seq.{getD-take, length-take-le, drop-cons}
 use Rattle.meaning.specs.Groups.{rangeLoad}
-use Rattle.meaning.proofs.Lists.{mem-take}
+use Rattle.meaning.proofs.Lists.{mem-take, mem-drop}
 use Rattle.walk.specs.declared.Walked.{Walked}
 use Rattle.walk.specs.Ranges.{range, topGroup}
 use Rattle.rows.specs.Order.{Node}
@@ -19,46 +19,40 @@ use Rattle.walk.proofs.Running.{counts-filled, run-places}
 use Rattle.walk.proofs.Paths.{overloads-are}
 use Rattle.walk.proofs.Same.{run-says}
 
--- ---- a run over the rows
+-- ---- a run over the rows of the top group Gs
 
-module _ {X : Type 0} (load : X → ℕ → ℕ) (h d e : ℕ) (root count work : List ℕ) (Gs : List (List X))
-    (many : length Gs ≡ h) (are : take h count ≡ sizes Gs) (rows : RowsHold load d work root Gs) where
+module _ {X : Type 0} (load : X → ℕ → ℕ) (Gs : List (List X)) where
   -- C and the witness, or unfinished exactly if the budget b is below C
-  pub walk-says : Walkable h d e root count work → (b : ℕ) (r : Walked) → r ≡ runRows work d e (take h root) (take h count) b → Says load e d b Gs (r .ending) (r .places)
-  walk-says w b r q =
+  pub walk-says : {h d e : ℕ} {root count work : List ℕ} → Walkable h d e root count work → length Gs ≡ h → take h count ≡ sizes Gs → RowsHold load d work root Gs
+      → (b : ℕ) {r : Walked} → r ≡ runRows work d e (take h root) (take h count) b → Says load e d b Gs (r .ending) (r .places)
+  walk-says {d = d} {e} {root} {work = work} w many are rows b {r} q =
       let a = w .stretches .few in
       let c = w .stretches .root7 in
       run-says load e d Gs (groupOverloads work d e (take (length Gs) root)) (overloads-are load work d e Gs root (omega arith) rows) b
-      (rw are at (counts-filled (w .stretches))) r
-      (q ∙ ap₂ (λ (k : ℕ) (ns : List ℕ). runRows work d e (take k root) ns b) (sym many) are)
+      (rw are at (counts-filled (w .stretches))) r (q ∙ ap₂ (λ (k : ℕ) (ns : List ℕ). runRows work d e (take k root) ns b) (sym many) are)
 
-  count-is : (j : ℕ) → j < h → getD count j 0 ≡ length (getD Gs j [])
-  count-is j l = sym (getD-take h count j 0 l) ∙ ap (λ (z : List ℕ). getD z j 0) are ∙ List·getD-map length Gs j []
+  count-is : (h : ℕ) (count : List ℕ) → take h count ≡ sizes Gs → (j : ℕ) → j < h → getD count j 0 ≡ length (getD Gs j [])
+  count-is h count are j l = sym (getD-take h count j 0 l) ∙ ap (λ (z : List ℕ). getD z j 0) are ∙ List·getD-map length Gs j []
+
+  range-light : (r : List X) (t : ℕ) → ((x : X) → List·Memᴰ x r → load x t ≤ light) → rangeLoad load r t ≤ light
+  range-light [] t a = omega arith
+  range-light (x ∷ r) t a = let i = range-light r t (λ y m. a y (List·Memᴰ·tail m)) in omega (arith, a x (List·Memᴰ·head refl))
 
   -- where the paths' loads are light, so are the cells
-  pub rows-walkable : Stretches (length work) h d root count → e ≤ light
-      → ((j : ℕ) → j < h → (x : X) → List·Memᴰ x (getD Gs j []) → (t : ℕ) → t < d → load x (suc t) ≤ light) → Walkable h d e root count work
-  rows-walkable s l p =
+  pub rows-walkable : {h d e : ℕ} {root count work : List ℕ} → Stretches (length work) h d root count → length Gs ≡ h → take h count ≡ sizes Gs → RowsHold load d work root Gs
+      → e ≤ light → ((j : ℕ) → j < h → (x : X) → List·Memᴰ x (getD Gs j []) → (t : ℕ) → t < d → load x (suc t) ≤ light) → Walkable h d e root count work
+  rows-walkable {h} {count = count} s many are rows l p =
       record {
         stretches = s;
         own = l;
         cells = λ j k f m x t i.
-            rw (rows j (omega arith) f m (subst (λ (n : ℕ). Node 0 n f m) (count-is j k) x) t i)
+            rw (rows j (omega arith) f m (subst (λ (n : ℕ). Node 0 n f m) (count-is h count are j k) x) t i)
             (range-light (partOf (getD Gs j []) (range f m)) (suc t) (λ y z. p j k y (mem-drop f (getD Gs j []) (mem-take m (drop f (getD Gs j [])) z)) t i));
       }
-    where
-      range-light : (r : List X) (t : ℕ) → ((x : X) → List·Memᴰ x r → load x t ≤ light) → rangeLoad load r t ≤ light
-      range-light [] t a = omega arith
-      range-light (x ∷ r) t a = let i = range-light r t (λ y m. a y (List·Memᴰ·tail m)) in omega (arith, a x (List·Memᴰ·head refl))
-
-      mem-drop : (n : ℕ) (xs : List X) {x : X} → List·Memᴰ x (drop n xs) → List·Memᴰ x xs
-      mem-drop zero xs m = m
-      mem-drop (suc n) [] m = m
-      mem-drop (suc n) (y ∷ xs) m = List·Memᴰ·tail (mem-drop n xs m)
 
 -- a place for each higher task there can be
-pub places-whole : (h d e : ℕ) (root count work : List ℕ) → Walkable h d e root count work → (b : ℕ) (r : Walked) → r ≡ runRows work d e (take h root) (take h count) b → length (r .places) ≡ mostHigher
-places-whole h d e root count work w b r q =
+pub places-whole : {h d e : ℕ} {root count work : List ℕ} → Walkable h d e root count work → (b : ℕ) {r : Walked} → r ≡ runRows work d e (take h root) (take h count) b → length (r .places) ≡ mostHigher
+places-whole {h} {d} {e} {root} {count} {work} w b q =
     let a = w .stretches .few in
     let c = w .stretches .count7 in
     ap (λ (z : Walked). length (z .places)) q

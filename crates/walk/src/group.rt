@@ -1,8 +1,9 @@
-// Where the row of a range begins, and the top group: "The top group takes all."
+// The rows of a task's stretch, and the group that the walk begins with: "The top group takes all."
+use crate::PerTask;
 use rows::top_row;
 ghost use mathlib.Core.Path.{_≡_};
-ghost use Prim.Native.Nat.{ℕ, _+_, _*_, _-_, _≤_, _<_};
-ghost use lib.ListN.{length, take, getD};
+ghost use Prim.Native.Nat.{_+_, _≤_};
+ghost use lib.ListN.{length, take};
 ghost use Rattle.meaning.specs.Bounds.{largestD, mostPaths};
 ghost use Rattle.walk.specs.Ranges.{range, topGroup};
 ghost use Rattle.walk.specs.Rows.{rowStart};
@@ -18,11 +19,11 @@ pub(crate) fn row_start(root: usize, first: usize, n: usize, d: usize) -> usize
 }
 
 pub(crate) fn top_group(
-    root: &[usize; 7],
-    count: &[usize; 7],
-    base: &mut [usize; 7],
-    first: &mut [usize; 7],
-    len: &mut [usize; 7],
+    root: &PerTask,
+    count: &PerTask,
+    base: &mut PerTask,
+    first: &mut PerTask,
+    len: &mut PerTask,
     h: usize,
     d: usize,
 )

@@ -20,6 +20,12 @@ ghost use Rattle.walk.specs.Lent.{groupIn, Ready, Walkable, Stepped};
 ghost use Rattle.walk.specs.Rows.{groupOverloads};
 ghost use Rattle.walk.specs.Steps.{examine, runRows};
 
+// A vertex has at most so many higher tasks.
+pub const MOST_HIGHER: usize = 7;
+
+// A number for each higher task.
+pub type PerTask = [usize; MOST_HIGHER];
+
 // What examining a group says: there is a next one, it was the last, or it is the witness.
 pub(crate) enum Examined {
     Next,
@@ -37,17 +43,17 @@ pub enum Ending {
 // On a miss the places of the witness's paths, one for each higher task; the other places are zero.
 pub struct Walked {
     pub ending: Ending,
-    pub places: [usize; 7],
+    pub places: PerTask,
 }
 
 // One step: the present group is examined, and the arrays hold the next.
 fn step(
     work: &[u32],
-    root: &[usize; 7],
-    count: &[usize; 7],
-    base: &mut [usize; 7],
-    first: &mut [usize; 7],
-    len: &mut [usize; 7],
+    root: &PerTask,
+    count: &PerTask,
+    base: &mut PerTask,
+    first: &mut PerTask,
+    len: &mut PerTask,
     h: usize,
     d: usize,
     e: u32,
@@ -70,8 +76,8 @@ fn step(
 // At most as many steps as the budget, from the top group on.
 pub fn run(
     work: &[u32],
-    root: &[usize; 7],
-    count: &[usize; 7],
+    root: &PerTask,
+    count: &PerTask,
     h: usize,
     d: usize,
     e: u32,
@@ -80,10 +86,10 @@ pub fn run(
     requires { ⌜ Walkable h d e (now root) (now count) (now work) ⌝ }
     ensures { λ r. ⌜ r ≡ runRows (now (work .entry)) d e (take h (now (root .entry))) (take h (now (count .entry))) budget ⌝ }
 {
-    let nowhere = [0usize; 7];
-    let mut base = [0usize; 7];
-    let mut first = [0usize; 7];
-    let mut len = [0usize; 7];
+    let nowhere = [0usize; MOST_HIGHER];
+    let mut base = [0usize; MOST_HIGHER];
+    let mut first = [0usize; MOST_HIGHER];
+    let mut len = [0usize; MOST_HIGHER];
     top_group(root, count, &mut base, &mut first, &mut len, h, d);
     let mut n: u32 = 0;
     while n < budget {

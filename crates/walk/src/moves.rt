@@ -1,8 +1,9 @@
 // From a group to the one that is examined next. "A group with some longer range has two children: the lowest-numbered task
 // whose range is longer than one is split, first part first."
+use crate::PerTask;
 use crate::group::row_start;
 ghost use mathlib.Core.Path.{_≡_};
-ghost use Prim.Native.Nat.{ℕ, _+_, _≤_, _<_};
+ghost use Prim.Native.Nat.{_+_, _≤_, _<_};
 ghost use lib.ListN.{take};
 ghost use Rattle.meaning.specs.Bounds.{mostPaths};
 ghost use Rattle.meaning.specs.Lists.{pick};
@@ -30,11 +31,11 @@ fn rest_length(first: usize, n: usize, s: usize) -> usize
 
 // The first child, if the group has children: else it is of single paths, and stays.
 pub(crate) fn first_child(
-    root: &[usize; 7],
-    count: &[usize; 7],
-    base: &mut [usize; 7],
-    first: &[usize; 7],
-    len: &mut [usize; 7],
+    root: &PerTask,
+    count: &PerTask,
+    base: &mut PerTask,
+    first: &PerTask,
+    len: &mut PerTask,
     h: usize,
     d: usize,
 ) -> bool
@@ -59,11 +60,11 @@ pub(crate) fn first_child(
 // The next group when nothing below the present one is examined, if there is one: the last range that does not end its task's
 // paths gives way to the rest that begins behind it, and the tasks behind that one are whole again.
 pub(crate) fn next_group(
-    root: &[usize; 7],
-    count: &[usize; 7],
-    base: &mut [usize; 7],
-    first: &mut [usize; 7],
-    len: &mut [usize; 7],
+    root: &PerTask,
+    count: &PerTask,
+    base: &mut PerTask,
+    first: &mut PerTask,
+    len: &mut PerTask,
     h: usize,
     d: usize,
 ) -> bool
