@@ -1,7 +1,7 @@
 // A task as columns of numbers, which cost less to lend than a record costs to hand on: the execution times, and the edges' ends and separations,
 // which stand in order of the vertex they start from, with the place of each vertex's first.
-use table::Task;
 use crate::numbers::index;
+use table::Task;
 ghost use mathlib.Core.Path.{_≡_};
 ghost use Prim.Native.Nat.{_≤_};
 ghost use mathlib.Core.List.{map};

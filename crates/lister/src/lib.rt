@@ -8,6 +8,7 @@ mod count;
 mod numbers;
 mod place;
 mod rows;
+
 use columns::columns_of;
 use count::count_all;
 use kinds::Ticks;

@@ -1,8 +1,8 @@
 // "A path kept by value in an array of 200 zeros with a length, rebuilt from its place in the order."
-use kinds::VertexNumber;
 use crate::Path;
 use crate::numbers::index;
 use crate::numbers::separation;
+use kinds::VertexNumber;
 ghost use mathlib.Core.Path.{_≡_};
 ghost use Prim.Native.Nat.{_+_, _≤_, _<_};
 ghost use mathlib.Core.List.{List};

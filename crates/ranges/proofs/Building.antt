@@ -5,7 +5,7 @@ use native.Mathlib.Nat.{add-mul, one-mul, zero-mul, suc-mul, mul-assoc, mul-comm
 use native.Mathlib.Omega.{arith}
 use mathlib.Core.List.{List, [], _∷_, _++_, append-assoc, append-nil}
 use lib.ListN.{length, take, drop, length-append, length-drop, drop-of-length-le}
-use lib.Seq.{sets, sets-eq, length-take-le, take-at, drop-at, take-take, take-append-le, take-all, drop-drop, take-nil, drop-append-add, take-append-add, drop-append-le}
+use lib.Seq.{sets, sets-eq, length-take-le, take-at, drop-at, take-take, take-append-le, take-all, drop-drop, drop-append-add, take-append-add, drop-append-le}
 use borrow.Rule.Slice.PartMut.{putMid}
 use Rattle.meaning.specs.Groups.{half, firstPart, secondPart}
 use Rattle.ranges.specs.Stretch.{largerCells, largestRow, topRow, stretchCells, singleRows, inOrder}
