@@ -107,22 +107,20 @@ fn fill_stretch(work: &mut [u32], t: Task, d: Ticks) -> usize
     need
 }
 
-fn print_stretch(t: Task, d: Ticks)
+fn print_stretch(work: &mut [u32], t: Task, d: Ticks)
     requires { ⌜ Ready t ⌝ }
-    requires { ⌜ (0 < d .0) × (d .0 ≤ largestD) ⌝ }
+    requires { ⌜ (0 < d .0) × (d .0 ≤ largestD) × (length (now work) ≡ (2 * mostPaths - 1) * largestD) ⌝ }
 {
-    let mut work = [0u32; 25400];
-    let need = fill_stretch(&mut work, t, d);
+    let need = fill_stretch(work, t, d);
     print_rows(&work[..need], ticks(d));
 }
 
 // The last cell of the stretch.
-fn print_last(t: Task, d: Ticks)
+fn print_last(work: &mut [u32], t: Task, d: Ticks)
     requires { ⌜ Ready t ⌝ }
-    requires { ⌜ (0 < d .0) × (d .0 ≤ largestD) ⌝ }
+    requires { ⌜ (0 < d .0) × (d .0 ≤ largestD) × (length (now work) ≡ (2 * mostPaths - 1) * largestD) ⌝ }
 {
-    let mut work = [0u32; 25400];
-    let need = fill_stretch(&mut work, t, d);
+    let need = fill_stretch(work, t, d);
     if need == 0 {
         return;
     }
@@ -138,10 +136,12 @@ fn run_r3() {
 }
 
 // "Paths (0), (1,2), (2)", and the rows of the five ranges.
-fn run_r7() {
+fn run_r7(work: &mut [u32])
+    requires { ⌜ length (now work) ≡ (2 * mostPaths - 1) * largestD ⌝ }
+{
     let t = tasks::r7();
     print_paths(t, Ticks(5));
-    print_stretch(t, Ticks(5));
+    print_stretch(work, t, Ticks(5));
 }
 
 // "64 paths at horizon 21, 256 at 31. An edgeless fifth vertex makes 65 at 21."
@@ -152,25 +152,28 @@ fn run_r10() {
     print_count(tasks::r10_fifth(), Ticks(21));
 }
 
-fn run(example: u8) {
+fn run(work: &mut [u32], example: u8)
+    requires { ⌜ length (now work) ≡ (2 * mostPaths - 1) * largestD ⌝ }
+{
     match example {
         b'3' => run_r3(),
-        b'7' => run_r7(),
+        b'7' => run_r7(work),
         b'A' => run_r10(),
         b'f' => print_count(tasks::wide_fan(), Ticks(200)),
-        b'F' => print_last(tasks::wide_fan(), Ticks(200)),
+        b'F' => print_last(work, tasks::wide_fan(), Ticks(200)),
         b'l' => print_count(tasks::long_path(), Ticks(200)),
-        b'L' => print_last(tasks::long_path(), Ticks(200)),
+        b'L' => print_last(work, tasks::long_path(), Ticks(200)),
         _ => end_line(),
     }
 }
 
 fn main() {
     let mut input = [0u8; 16];
+    let mut work = [0u32; 25400];
     let n = io::read_full(0, &mut input);
     let mut i: usize = 0;
     while i < n {
-        run(input[i]);
+        run(&mut work, input[i]);
         i += 1;
     }
 }

@@ -1,13 +1,17 @@
-use Prim.Native.Nat.{_-_, _≤_}
+use Prim.Native.Nat.{_-_, _*_, _≤_}
+use mathlib.Core.Path.{_≡_}
+use lib.ListN.{length}
+use Rattle.meaning.specs.Bounds.{mostPaths, largestD}
+use native.Mathlib.Omega.{arith}
 use borrow.Author.Needs.{needs}
 use Rattle.lister_bench.proofs.main.Statement.{statement}
 use Rattle.lister_bench.proofs.main.Tie as tie
 
 abbrev Inv-loop : tie.InvT-loop
-Inv-loop input n i₀ i = (i ≤ n) × (n ≤ 16)
+Inv-loop input work₀ n i₀ work i = (i ≤ n) × (n ≤ 16) × (length work ≡ (2 * mostPaths - 1) * largestD)
 
 abbrev μ-loop : tie.MeasureT-loop
-μ-loop input n i₀ i = n - i
+μ-loop input work₀ n i₀ work i = n - i
 
 slice-aggregate-read-full : tie.Need-slice-aggregate-read-full Inv-loop μ-loop
 slice-aggregate-read-full c = search needs
@@ -17,6 +21,9 @@ read-full-requires c κs = search needs
 
 loop-holds : tie.Need-loop-holds Inv-loop μ-loop
 loop-holds c = search needs
+
+slice-aggregate-run : tie.Need-slice-aggregate-run Inv-loop μ-loop
+slice-aggregate-run c = search needs
 
 array-read-run : tie.Need-array-read-run Inv-loop μ-loop
 array-read-run c = search needs
@@ -45,6 +52,7 @@ main-spec =
     slice-aggregate-read-full
     read-full-requires
     loop-holds
+    slice-aggregate-run
     array-read-run
     run-requires
     add-i

@@ -5,23 +5,23 @@ use borrow.Author.Needs.{needs}
 use Rattle.lister_bench.proofs.print_stretch.Statement.{statement}
 use Rattle.lister_bench.proofs.print_stretch.Tie as tie
 
-slice-aggregate-fill-stretch : tie.Need-slice-aggregate-fill-stretch
-slice-aggregate-fill-stretch c = search needs
-
 fill-stretch-requires : tie.Need-fill-stretch-requires
 fill-stretch-requires c κs = search needs
 
-array-share-prefix-work : tie.Need-array-share-prefix-work
-array-share-prefix-work c = search needs
+slice-reshare-prefix-print-rows : tie.Need-slice-reshare-prefix-print-rows
+slice-reshare-prefix-print-rows c = search needs
 
 slice-aggregate-print-rows : tie.Need-slice-aggregate-print-rows
-slice-aggregate-print-rows c = sym (length-take-le (c .before .before .fill-stretch .result) ((c .before .before .fill-stretch .last) .0) (omega (arith, (c .before .before .fill-stretch .kept))))
+slice-aggregate-print-rows c = sym (length-take-le (c .before .before .before .fill-stretch .result) ((c .before .before .before .fill-stretch .last) .0) (omega (arith, (c .before .before .before .fill-stretch .kept))))
 
 ticks-requires : tie.Need-ticks-requires
 ticks-requires c κs = search needs
 
 print-rows-requires : tie.Need-print-rows-requires
 print-rows-requires c κs = search needs
+
+same-length : tie.Need-same-length
+same-length c = search needs
 
 returns : tie.Need-returns
 returns c = search needs
@@ -30,10 +30,10 @@ pub print-stretch-spec : {M : Type 1} → statement M
 print-stretch-spec =
     tie.close
     (tie.spec
-    slice-aggregate-fill-stretch
     fill-stretch-requires
-    array-share-prefix-work
+    slice-reshare-prefix-print-rows
     slice-aggregate-print-rows
     ticks-requires
     print-rows-requires
+    same-length
     returns)

@@ -25,7 +25,7 @@ wide-fan-requires-2 : tie.Need-wide-fan-requires-2
 wide-fan-requires-2 c κs = search needs
 
 print-last-requires : tie.Need-print-last-requires
-print-last-requires c κs = (subst Ready (sym (c .wide-fan2 .ensures)) ready-fan, (omega arith, omega arith))
+print-last-requires c κs = (subst Ready (sym (c .wide-fan2 .ensures)) ready-fan, (omega arith, omega arith, (c .before .before .before .before .pre)))
 
 long-path-requires : tie.Need-long-path-requires
 long-path-requires c κs = search needs
@@ -37,13 +37,16 @@ long-path-requires-2 : tie.Need-long-path-requires-2
 long-path-requires-2 c κs = search needs
 
 print-last-requires-2 : tie.Need-print-last-requires-2
-print-last-requires-2 c κs = (subst Ready (sym (c .long-path2 .ensures)) ready-long, (omega arith, omega arith))
+print-last-requires-2 c κs = (subst Ready (sym (c .long-path2 .ensures)) ready-long, (omega arith, omega arith, (c .before .before .before .before .pre)))
 
 end-line-requires : tie.Need-end-line-requires
 end-line-requires c κs = search needs
 
 returns : tie.Need-returns
 returns c = search needs
+
+same-length : tie.Need-same-length
+same-length c = search needs
 
 returns-2 : tie.Need-returns-2
 returns-2 c = search needs
@@ -54,11 +57,17 @@ returns-3 c = search needs
 returns-4 : tie.Need-returns-4
 returns-4 c = search needs
 
+same-length-2 : tie.Need-same-length-2
+same-length-2 c = search needs
+
 returns-5 : tie.Need-returns-5
 returns-5 c = search needs
 
 returns-6 : tie.Need-returns-6
 returns-6 c = search needs
+
+same-length-3 : tie.Need-same-length-3
+same-length-3 c = search needs
 
 returns-7 : tie.Need-returns-7
 returns-7 c = search needs
@@ -83,10 +92,13 @@ run-spec =
     print-last-requires-2
     end-line-requires
     returns
+    same-length
     returns-2
     returns-3
     returns-4
+    same-length-2
     returns-5
     returns-6
+    same-length-3
     returns-7
     returns-8)

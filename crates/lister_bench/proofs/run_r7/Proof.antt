@@ -13,10 +13,15 @@ print-paths-requires : tie.Need-print-paths-requires
 print-paths-requires c κs = (subst Ready (sym (c .r7 .ensures)) ready-r7, (omega arith, omega arith))
 
 print-stretch-requires : tie.Need-print-stretch-requires
-print-stretch-requires c κs = (subst Ready (sym (c .before .r7 .ensures)) ready-r7, (omega arith, omega arith))
+print-stretch-requires c κs = (subst Ready (sym (c .before .before .r7 .ensures)) ready-r7, (omega arith, omega arith, (c .before .before .before .before .pre)))
+
+same-length : tie.Need-same-length
+same-length c = search needs
 
 returns : tie.Need-returns
 returns c = search needs
 
 pub run-r7-spec : {M : Type 1} → statement M
-run-r7-spec = tie.close (tie.spec r7-requires print-paths-requires print-stretch-requires returns)
+run-r7-spec =
+    tie.close
+    (tie.spec r7-requires print-paths-requires print-stretch-requires same-length returns)
