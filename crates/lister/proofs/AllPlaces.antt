@@ -4,14 +4,14 @@ use Prim.Native.Nat.{ℕ, _+_, _≤_, _<_, zero-le}
 use native.Mathlib.Omega.{arith}
 use native.Mathlib.Decide.{decLt}
 use mathlib.Core.Bool.{true, false}
-use mathlib.Core.List.{List, [], _∷_, _++_}
+use mathlib.Core.List.{List, [], _∷_}
 use lib.ListN.{length, getD, take, drop, replicate, length-map, length-replicate, List·getD-append}
 use lib.Seq.{sets, sets-eq, length-sets, take-at, getD-append-add}
 use Rattle.meaning.specs.Bounds.{mostVertices, largestD}
 use Rattle.lister.specs.declared.place.Sought.{Sought}
 use Rattle.lister.specs.Columns.{SoundColumns}
 use Rattle.lister.specs.Ways.{ways, allWays, onBy, verticesOn, pathBy}
-use Rattle.lister.specs.Place.{Found, pathRecord}
+use Rattle.lister.specs.Place.{Found}
 use Rattle.lister.proofs.Taken.{way-short}
 use Rattle.lister.proofs.Ways.{all-ways-none, all-ways-more}
 use Rattle.lister.proofs.Places.{getD-onBy, true-false}

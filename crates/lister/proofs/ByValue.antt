@@ -14,7 +14,7 @@ use Rattle.lister.specs.declared.Path.{Path}
 use Rattle.lister.specs.Place.{pathRecord}
 
 -- the cell behind a list that is filled up
-padded-more : {X : Type 0} (n : ℕ) (z x : X) (xs : List X) → length xs < n → set (padded n z xs) (length xs) x ≡ padded n z (xs ++ (x ∷ []))
+pub padded-more : {X : Type 0} (n : ℕ) (z x : X) (xs : List X) → length xs < n → set (padded n z xs) (length xs) x ≡ padded n z (xs ++ (x ∷ []))
 unfolding padded
 padded-more zero z x xs h = absurd (omega arith)
 padded-more (suc n) z x [] h =

@@ -11,7 +11,7 @@ use Rattle.meaning.specs.Bounds.{mostVertices}
 use Rattle.meaning.specs.Table.{Edge, Task}
 use Rattle.meaning.specs.Paths.{orAlone, pathsFrom, completePaths, pathsOf}
 use Rattle.meaning.proofs.Lists.{map-append}
-use Rattle.lister.specs.Columns.{SoundColumns, ColumnsOf, edgeAt, edgesOf}
+use Rattle.lister.specs.Columns.{ColumnsOf, edgeAt, edgesOf}
 use Rattle.lister.specs.Ways.{orStop, onBy, waysFrom, ways, allWays, verticesOn, pathBy}
 use Rattle.lister.proofs.Ways.{edge-below}
 

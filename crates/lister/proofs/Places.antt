@@ -6,15 +6,15 @@ use native.Mathlib.Omega.{arith}
 use native.Mathlib.Decide.{decLt}
 use mathlib.Core.Bool.{Bool, true, false}
 use mathlib.Core.List.{List, [], _∷_, _++_, map}
-use lib.ListN.{length, getD, set, replicate, length-map, List·getD-append}
+use lib.ListN.{length, getD, set, length-map, List·getD-append}
 use lib.Seq.{sets, getD-append-add}
-use Rattle.meaning.specs.Bounds.{mostVertices, largestD}
+use Rattle.meaning.specs.Bounds.{mostVertices}
 use Rattle.lister.specs.declared.place.Sought.{Sought}
 use Rattle.lister.specs.Columns.{SoundColumns}
-use Rattle.lister.specs.Ways.{ways, allWays, onBy, orStop, verticesOn, pathBy}
+use Rattle.lister.specs.Ways.{ways, onBy, orStop, verticesOn}
 use Rattle.lister.specs.Place.{Found}
 use Rattle.lister.proofs.Stores.{set-sets}
-use Rattle.lister.proofs.Ways.{byEdges, step-no, step-yes, length-yes, by-edges-none, ways-step, orStop-some, length-zero, all-ways-none, all-ways-more}
+use Rattle.lister.proofs.Ways.{byEdges, step-no, step-yes, length-yes, by-edges-none, ways-step, orStop-some, length-zero}
 
 pub getD-onBy : (k : ℕ) (hs : List (List ℕ)) (i : ℕ) → i < length hs → getD (onBy k hs) i [] ≡ k ∷ getD hs i []
 getD-onBy k [] i h = absurd (omega arith)

@@ -13,7 +13,7 @@ use Rattle.meaning.proofs.Lists.{map-append, mem-countFrom}
 use Rattle.meaning.proofs.Loads.{ifRoom, runOn, load-run}
 use Rattle.meaning.proofs.Suffice.{run-zero}
 use Rattle.meaning.proofs.Edges.{separation-is}
-use Rattle.lister.specs.Columns.{SoundColumns, ColumnsOf, edgeAt}
+use Rattle.lister.specs.Columns.{ColumnsOf, edgeAt}
 use Rattle.lister.specs.Ways.{onBy, waysFrom, ways, allWays, verticesOn, pathBy}
 use Rattle.lister.specs.Rows.{loadRow, runs, wayRow, wayRows}
 use Rattle.lister.proofs.Ways.{edge-below}

@@ -17,7 +17,7 @@ use Rattle.meaning.specs.Sound.{SoundTask}
 use Rattle.meaning.proofs.Groups.{first-part, second-part}
 use Rattle.meaning.proofs.LoadBounds.{load-rises, range-rises, range-bound, load-bound}
 use Rattle.meaning.proofs.PathsOf.{paths-legal}
-use Rattle.ranges.specs.Stretch.{inside, inOrder, rangeRow, stretchOf}
+use Rattle.ranges.specs.Stretch.{stretchCells, inside, inOrder, rangeRow, stretchOf}
 use Rattle.ranges.proofs.Rows.{order-length}
 use Rattle.ranges.proofs.WholeStretch.{ticks-length}
 
@@ -30,11 +30,14 @@ stretch-length k d h =
     order-length (rangeRow k d) d (λ ys. length-map (ticks d) (rangeLoad (load k) ys) ∙ ticks-length 1 d) (length (pathsOf k d)) (pathsOf k d) h (omega arith)
 
 -- where 9 is not the refusal, a task's need is small
-pub need-small : (k : Task) (d : ℕ) → length (pathsOf k d) ≤ mostPaths → d ≤ largestD → rowsOf d k * d ≤ (2 * mostPaths - 1) * largestD
-need-small k d h l =
-    let a : rowsOf d k * d ≤ (2 * mostPaths - 1) * d = mul-le-mul-right d (omega arith) in
+pub cells-small : (n d : ℕ) → n ≤ mostPaths → d ≤ largestD → stretchCells d n ≤ (2 * mostPaths - 1) * largestD
+cells-small n d h l =
+    let a : stretchCells d n ≤ (2 * mostPaths - 1) * d = mul-le-mul-right d (omega arith) in
     let b : (2 * mostPaths - 1) * d ≤ (2 * mostPaths - 1) * largestD = omega arith in
     le-trans a b
+
+pub need-small : (k : Task) (d : ℕ) → length (pathsOf k d) ≤ mostPaths → d ≤ largestD → rowsOf d k * d ≤ (2 * mostPaths - 1) * largestD
+need-small k d = cells-small (length (pathsOf k d)) d
 
 -- ---- how large
 

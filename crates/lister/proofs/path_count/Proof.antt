@@ -1,6 +1,5 @@
-use mathlib.Core.Path.{_≡_, refl, sym, ap, subst, _∙_}
-use Prim.Native.Nat.{ℕ, min, _≤_, _<_}
-use native.Mathlib.Omega.{arith}
+use mathlib.Core.Path.{sym, ap, _∙_}
+use Prim.Native.Nat.{min}
 use borrow.Author.Needs.{needs}
 use Rattle.lister.proofs.PathsAreWays.{count-of-ways}
 use Rattle.lister.proofs.TaskColumns.{size-of}

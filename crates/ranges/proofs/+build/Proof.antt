@@ -1,12 +1,10 @@
-use Prim.Native.Nat.{_+_, _-_, _*_, _/_, _≤_, min, max}
-use mathlib.Core.Path.{_≡_, refl, sym, ap, ap₂, _∙_}
+use Prim.Native.Nat.{_+_, _-_, _*_, _/_, ℕ, _<_}
+use mathlib.Core.Path.{_≡_, sym, ap, ap₂, _∙_}
 use native.Mathlib.Omega.{arith}
-use borrow.Author.Needs.{needs}
-use lib.ListN.{length, getD, take, drop, replicate}
-use lib.Seq.{sets, length-sets, length-take-le}
+use lib.ListN.{length, drop}
+use lib.Seq.{sets, length-take-le}
 use mathlib.Core.List.{_++_}
 use borrow.Rule.Slice.PartMut.{putMid}
-use Prim.Native.Nat.{ℕ, _<_}
 use borrow.Fn.Kinds.{In}
 use borrow.Fn.PlainCycle.{Measures, is, falls, and}
 use Rattle.ranges.specs.Stretch.{inOrder, largestRow, singleRows, stretchCells}

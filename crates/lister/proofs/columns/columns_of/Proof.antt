@@ -1,7 +1,6 @@
-use Prim.Native.Nat.{ℕ, _+_, _-_, _≤_, _<_}
-use mathlib.Core.Path.{_≡_, refl, sym, ap, _∙_}
+use Prim.Native.Nat.{_-_, _≤_}
+use mathlib.Core.Path.{refl}
 use native.Mathlib.Omega.{arith}
-use borrow.Author.Needs.{needs}
 use Rattle.lister.proofs.TaskColumns.{Front, column-sorted, columns-say, fromIn, front-all, front-more, pIn, toIn}
 use Rattle.lister.proofs.columns.columns_of.Statement.{statement}
 use Rattle.lister.proofs.columns.columns_of.Tie as tie

@@ -1,8 +1,5 @@
-use Prim.Native.Nat.{ℕ, _+_, _-_, _≤_, _<_}
-use mathlib.Core.Path.{_≡_, refl, sym, ap, _∙_}
+use Prim.Native.Nat.{_-_}
 use native.Mathlib.Omega.{arith}
-use borrow.Author.Needs.{needs}
-use lib.ListN.{length, getD}
 use Rattle.meaning.specs.Bounds.{mostVertices}
 use Rattle.lister.proofs.EdgeStarts.{Cutting, cutting-more, cutting-none}
 use Rattle.lister.proofs.columns.edge_starts.Statement.{statement}

@@ -1,9 +1,8 @@
-use Prim.Native.Nat.{ℕ, _+_, _-_, _≤_, _<_}
+use Prim.Native.Nat.{_-_, _≤_}
 use mathlib.Core.Path.{_≡_, refl, sym, ap, _∙_}
 use mathlib.Core.List.{map}
 use native.Mathlib.Omega.{arith}
-use borrow.Author.Needs.{needs}
-use lib.ListN.{length, take, replicate, length-map, List·getD-map}
+use lib.ListN.{take, replicate, length-map, List·getD-map}
 use lib.Seq.{sets}
 use Rattle.table.specs.Record.{noVertex}
 use Rattle.meaning.specs.Bounds.{mostVertices}

@@ -1,5 +1,5 @@
 use Prim.Native.Nat.{_-_, _≤_}
-use mathlib.Core.Path.{_≡_, refl}
+use mathlib.Core.Path.{_≡_}
 use native.Mathlib.Omega.{arith}
 use Rattle.lister.proofs.ByValue.{verticesIn, vertices-none, vertices-more, vertices-all}
 use Rattle.lister.proofs.place.by_value.Statement.{statement}

@@ -1,10 +1,9 @@
-use Prim.Native.Nat.{_+_, _-_, _*_, _≤_, min, max}
-use mathlib.Core.Path.{_≡_, refl, sym, ap, ap₂, _∙_}
+use Prim.Native.Nat.{_+_, _-_, ℕ, _<_}
+use mathlib.Core.Path.{ap, _∙_}
 use native.Mathlib.Omega.{arith}
 use borrow.Author.Needs.{needs}
-use lib.ListN.{length, getD, take, replicate}
-use lib.Seq.{sets, length-sets}
-use Prim.Native.Nat.{ℕ, _<_}
+use lib.ListN.{length, getD, replicate}
+use lib.Seq.{length-sets}
 use borrow.Fn.Kinds.{In}
 use borrow.Fn.PlainCycle.{Measures, is, falls, and}
 use Rattle.meaning.specs.Bounds.{mostVertices}

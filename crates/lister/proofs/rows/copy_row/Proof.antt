@@ -1,8 +1,8 @@
-use Prim.Native.Nat.{ℕ, _+_, _-_, _≤_}
-use mathlib.Core.Path.{_≡_, refl, sym, ap, _∙_}
+use Prim.Native.Nat.{_-_, _≤_}
+use mathlib.Core.Path.{_≡_, refl, ap, _∙_}
 use native.Mathlib.Omega.{arith}
 use lib.ListN.{length, take, length-set}
-use lib.Seq.{sets, length-sets}
+use lib.Seq.{sets}
 use Rattle.lister.proofs.Stores.{copy-more}
 use Rattle.lister.proofs.rows.copy_row.Statement.{statement}
 use Rattle.lister.proofs.rows.copy_row.Tie as tie

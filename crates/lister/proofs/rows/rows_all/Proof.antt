@@ -1,8 +1,6 @@
-use Prim.Native.Nat.{ℕ, _+_, _-_, _≤_, _<_, min}
-use mathlib.Core.Path.{_≡_, refl, sym, ap, _∙_}
+use Prim.Native.Nat.{ℕ, _-_}
 use native.Mathlib.Omega.{arith}
-use borrow.Author.Needs.{needs}
-use lib.ListN.{length, length-replicate}
+use lib.ListN.{length-replicate}
 use Rattle.meaning.specs.Bounds.{largestD}
 use Rattle.lister.proofs.AllRows.{Filling, filling-all, filling-none, filling-on, filling-room}
 use Rattle.lister.proofs.rows.rows_all.Statement.{statement}
