@@ -66,7 +66,7 @@ take-map f zero xs = refl
 take-map f (suc n) [] = refl
 take-map {Y = Y} f (suc n) (x ∷ xs) = ap (λ (ys : List Y). f x ∷ ys) (take-map f n xs)
 
-stretches-size : (xs : List Meant.Task) (d : ℕ) → AllSound xs → length (stretches xs d) ≡ rowsIn (pathCounts xs d) * d
+pub stretches-size : (xs : List Meant.Task) (d : ℕ) → AllSound xs → length (stretches xs d) ≡ rowsIn (pathCounts xs d) * d
 unfolding rowsIn
 stretches-size [] d s = sym (zero-mul d)
 stretches-size (x ∷ xs) d s =
@@ -124,7 +124,7 @@ module _ (t : Table) (k : Held t) (h d : ℕ) (l : h < t .n) (a : Above) (c : Co
   abbrev sofar : ℕ → List ℕ
   sofar j = stretches (take j ks) d
 
-  sofar-length : (j : ℕ) → length (sofar j) ≡ rowsIn (take j ns) * d
+  pub sofar-length : (j : ℕ) → length (sofar j) ≡ rowsIn (take j ns) * d
   sofar-length j =
       stretches-size (take j ks) d (λ x i. k .sound .eachTask x (mem-take h (tableOf t) (mem-take j ks i)))
       ∙ ap (λ (xs : List ℕ). rowsIn xs * d) (sym (take-map (λ (x : Meant.Task). length (pathsOf x d)) j ks))

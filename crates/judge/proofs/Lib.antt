@@ -4,3 +4,5 @@ pub mod Fronts
 pub mod Filling
 pub mod Placing
 pub mod Witnesses
+pub mod Joining
+pub mod Walking

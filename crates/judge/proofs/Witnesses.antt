@@ -141,6 +141,9 @@ module _ (t : Table) (k : Held t) (h d : ℕ) (l : h < t .n) (o : 0 < d) (u : d 
           wrote = subst (λ (x : List ℕ). Wrote x before 0 after next) (sym more) (wrote-then (cellsOf (take j (pathsAt ks d ps))) (pathCells r) (w .wrote) v);
         }
 
-  pub writing-all : {now : List ℕ} {at j : ℕ} → Writing ks h d ps before now at j → h ≤ j → Wrote (cellsOf (pathsAt ks d ps)) before 0 now at
+  pub writing-all : {now : List ℕ} {at j : ℕ} → Writing ks h d ps before now at j → h ≤ j → Wrote (cellsOf (pathsAt ks d ps)) before 0 now at × (at ≤ h * (1 + d))
   writing-all {now} {at} {j} w m =
-      subst (λ (ws : List Path). Wrote (cellsOf ws) before 0 now at) (take-all j (pathsAt ks d ps) (omega (arith, paths-length ks d ps (omega (arith, many, few)), many))) (w .wrote)
+      let e : j ≡ h = omega (arith, w .low) in (
+        subst (λ (ws : List Path). Wrote (cellsOf ws) before 0 now at) (take-all j (pathsAt ks d ps) (omega (arith, paths-length ks d ps (omega (arith, many, few)), many))) (w .wrote),
+        subst (λ (n : ℕ). at ≤ n * (1 + d)) e (w .short),
+      )

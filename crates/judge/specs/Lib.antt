@@ -1,3 +1,4 @@
 pub mod Above
 pub mod Stretches
 pub mod Witness
+pub mod Judged

@@ -4,4 +4,5 @@
 mod above;
 mod areas;
 mod stretches;
+mod vertex;
 mod witness;

@@ -42,7 +42,7 @@ pub(crate) fn write_witness(
 ) -> usize
     requires { ⌜ Held t × (h < t .n) × (0 < d .0) × (d .0 ≤ largestD) ⌝ }
     requires { ⌜ ((j : ℕ) → j < h → getD places j 0 ≤ mostCounted) × (h * (1 + d .0) ≤ length (now witness)) ⌝ }
-    ensures { λ r. ⌜ Wrote (cellsOf (pathsAt (higher (tableOf t) h) (d .0) places)) (now (witness .entry)) 0 (now (witness .exit)) r ⌝ }
+    ensures { λ r. ⌜ Wrote (cellsOf (pathsAt (higher (tableOf t) h) (d .0) places)) (now (witness .entry)) 0 (now (witness .exit)) r × (r ≤ h * (1 + d .0)) ⌝ }
 {
     let mut at: usize = 0;
     let mut j: usize = 0;
