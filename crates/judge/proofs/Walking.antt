@@ -20,7 +20,7 @@ use Rattle.kinds.specs.declared.Verdict.the-variants as Kinds
 use Rattle.table.specs.declared.Table.{Table}
 use Rattle.table.specs.Record.{tableOf}
 use Rattle.lister.specs.Columns.{mostCounted}
-use Rattle.frames.specs.Lines.{Wrote}
+use Rattle.desk_frames.specs.Lines.{Wrote}
 use Rattle.walk.specs.declared.Ending.the-variants.{Meets, Misses, Unfinished}
 use Rattle.walk.specs.declared.Walked.{Walked}
 use Rattle.walk.specs.Steps.{runRows}

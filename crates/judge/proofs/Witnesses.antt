@@ -24,8 +24,8 @@ use Rattle.table.specs.Record.{padded, vertexNumber, tableOf, taskOf}
 use Rattle.table.proofs.Record.{take-padded, length-padded}
 use Rattle.lister.specs.declared.Path as Lister
 use Rattle.lister.specs.Place.{pathRecord}
-use Rattle.frames.specs.Lines.{Wrote}
-use Rattle.frames.proofs.Lines.{wrote-none, wrote-then, wrote-length}
+use Rattle.desk_frames.specs.Lines.{Wrote}
+use Rattle.desk_frames.proofs.Lines.{wrote-none, wrote-then, wrote-length}
 use Rattle.judge.specs.Above.{Held}
 use Rattle.judge.specs.Witness.{pathCells, pathsAt}
 use Rattle.judge.proofs.Records.{held-count, held-few, held-is, held-sound}

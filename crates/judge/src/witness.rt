@@ -11,7 +11,7 @@ ghost use Rattle.meaning.specs.Table.{higher};
 ghost use Rattle.meaning.specs.Verdict.{cellsOf};
 ghost use Rattle.table.specs.Record.{tableOf};
 ghost use Rattle.lister.specs.Columns.{mostCounted};
-ghost use Rattle.frames.specs.Lines.{Wrote};
+ghost use Rattle.desk_frames.specs.Lines.{Wrote};
 ghost use Rattle.judge.specs.Above.{Held};
 ghost use Rattle.judge.specs.Witness.{pathCells, pathsAt};
 

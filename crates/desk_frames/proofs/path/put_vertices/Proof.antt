@@ -1,9 +1,9 @@
 use Prim.Native.Nat.{_-_}
 use lib.ListN.{length}
 use borrow.Author.Needs.{needs}
-use Rattle.frames.proofs.Lines.{Putting, putting-none, putting-more, putting-all, wrote-low}
-use Rattle.frames.proofs.path.put_vertices.Statement.{statement}
-use Rattle.frames.proofs.path.put_vertices.Tie as tie
+use Rattle.desk_frames.proofs.Lines.{Putting, putting-none, putting-more, putting-all, wrote-low}
+use Rattle.desk_frames.proofs.path.put_vertices.Statement.{statement}
+use Rattle.desk_frames.proofs.path.put_vertices.Tie as tie
 
 abbrev Inv-loop : tie.InvT-loop
 Inv-loop out₀ at vertices next₀ i₀ out next i = Putting vertices out₀ at out next i

@@ -1,9 +1,9 @@
 use Prim.Native.Nat.{_-_}
 use lib.ListN.{length}
 use borrow.Author.Needs.{needs}
-use Rattle.frames.proofs.Lines.{Putting, putting-none, putting-more, putting-all}
-use Rattle.frames.proofs.line.put_bytes.Statement.{statement}
-use Rattle.frames.proofs.line.put_bytes.Tie as tie
+use Rattle.desk_frames.proofs.Lines.{Putting, putting-none, putting-more, putting-all}
+use Rattle.desk_frames.proofs.line.put_bytes.Statement.{statement}
+use Rattle.desk_frames.proofs.line.put_bytes.Tie as tie
 
 abbrev Inv-loop : tie.InvT-loop
 Inv-loop out₀ at bytes next₀ i₀ out next i = Putting bytes out₀ at out next i

@@ -1,8 +1,8 @@
 use native.Mathlib.Omega.{arith}
-use Rattle.frames.proofs.Lines.{digits-end, wrote-length, wrote-line}
+use Rattle.desk_frames.proofs.Lines.{digits-end, wrote-length, wrote-line}
 use borrow.Author.Needs.{needs}
-use Rattle.frames.proofs.line.put_line.Statement.{statement}
-use Rattle.frames.proofs.line.put_line.Tie as tie
+use Rattle.desk_frames.proofs.line.put_line.Statement.{statement}
+use Rattle.desk_frames.proofs.line.put_line.Tie as tie
 
 put-bytes-requires : tie.Need-put-bytes-requires
 put-bytes-requires c κs = search needs

@@ -1,9 +1,9 @@
 use native.Mathlib.Omega.{arith}
 use lib.ListN.{length-set}
-use Rattle.frames.proofs.Lines.{wrote-byte}
+use Rattle.desk_frames.proofs.Lines.{wrote-byte}
 use borrow.Author.Needs.{needs}
-use Rattle.frames.proofs.line.put_byte.Statement.{statement}
-use Rattle.frames.proofs.line.put_byte.Tie as tie
+use Rattle.desk_frames.proofs.line.put_byte.Statement.{statement}
+use Rattle.desk_frames.proofs.line.put_byte.Tie as tie
 
 digit-requires : tie.Need-digit-requires
 digit-requires c κs = search needs

@@ -12,7 +12,7 @@ use Rattle.meaning.specs.Text.{lineFeed}
 use Rattle.meaning.specs.Paths.{Path}
 use Rattle.meaning.specs.Desk.{digit, digits, line, pathFrame}
 use Rattle.meaning.proofs.Lists.{gather-append}
-use Rattle.frames.specs.Lines.{Wrote}
+use Rattle.desk_frames.specs.Lines.{Wrote}
 
 -- one run of stores and then another
 pub sets-append : (l : List ℕ) (i : ℕ) (xs ys : List ℕ) → sets l i (xs ++ ys) ≡ sets (sets l i xs) (i + length xs) ys

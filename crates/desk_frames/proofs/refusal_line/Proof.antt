@@ -1,10 +1,10 @@
 use mathlib.Core.Path.{subst}
 use Prim.Native.Nat.{ℕ}
 use Rattle.meaning.specs.Desk.{line, refusalFrame}
-use Rattle.frames.specs.Lines.{Wrote}
+use Rattle.desk_frames.specs.Lines.{Wrote}
 use borrow.Author.Needs.{needs}
-use Rattle.frames.proofs.refusal_line.Statement.{statement}
-use Rattle.frames.proofs.refusal_line.Tie as tie
+use Rattle.desk_frames.proofs.refusal_line.Statement.{statement}
+use Rattle.desk_frames.proofs.refusal_line.Tie as tie
 
 refusal-number-requires : tie.Need-refusal-number-requires
 refusal-number-requires c κs = search needs

@@ -1,9 +1,9 @@
 use native.Mathlib.Omega.{arith}
 use Rattle.meaning.specs.Desk.{pathFrame}
-use Rattle.frames.proofs.Lines.{digits-end, wrote-length, wrote-line, head-then}
+use Rattle.desk_frames.proofs.Lines.{digits-end, wrote-length, wrote-line, head-then}
 use borrow.Author.Needs.{needs}
-use Rattle.frames.proofs.path.path_line.Statement.{statement}
-use Rattle.frames.proofs.path.path_line.Tie as tie
+use Rattle.desk_frames.proofs.path.path_line.Statement.{statement}
+use Rattle.desk_frames.proofs.path.path_line.Tie as tie
 
 cast-t9 : tie.Need-cast-t9
 cast-t9 c = search needs

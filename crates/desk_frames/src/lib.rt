@@ -16,7 +16,7 @@ ghost use lib.ListN.{length, getD};
 ghost use Rattle.meaning.specs.Lists.{gather};
 ghost use Rattle.meaning.specs.Desk.{line, verdictFrame, countsFrame, refusalFrame, pathFrames};
 ghost use Rattle.kinds.specs.Numbers.{refusalNumber, verdictNumbers};
-ghost use Rattle.frames.specs.Lines.{Wrote};
+ghost use Rattle.desk_frames.specs.Lines.{Wrote};
 
 // A vertex's verdict.
 pub fn verdict_line(

@@ -1,10 +1,10 @@
 use mathlib.Core.Path.{subst₂}
 use Prim.Native.Nat.{ℕ}
 use Rattle.meaning.specs.Desk.{line, verdictFrame}
-use Rattle.frames.specs.Lines.{Wrote}
+use Rattle.desk_frames.specs.Lines.{Wrote}
 use borrow.Author.Needs.{needs}
-use Rattle.frames.proofs.verdict_line.Statement.{statement}
-use Rattle.frames.proofs.verdict_line.Tie as tie
+use Rattle.desk_frames.proofs.verdict_line.Statement.{statement}
+use Rattle.desk_frames.proofs.verdict_line.Tie as tie
 
 verdict-number-requires : tie.Need-verdict-number-requires
 verdict-number-requires c κs = search needs

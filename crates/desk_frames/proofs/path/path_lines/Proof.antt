@@ -1,9 +1,9 @@
 use Prim.Native.Nat.{_-_}
 use borrow.Author.Needs.{needs}
 use native.Mathlib.Omega.{arith}
-use Rattle.frames.proofs.PathLines.{Pathing, pathing-none, ahead, path-asks, pathing-more, pathing-all}
-use Rattle.frames.proofs.path.path_lines.Statement.{statement}
-use Rattle.frames.proofs.path.path_lines.Tie as tie
+use Rattle.desk_frames.proofs.PathLines.{Pathing, pathing-none, ahead, path-asks, pathing-more, pathing-all}
+use Rattle.desk_frames.proofs.path.path_lines.Statement.{statement}
+use Rattle.desk_frames.proofs.path.path_lines.Tie as tie
 
 abbrev Inv-loop : tie.InvT-loop
 Inv-loop out₀ at cells h next₀ k₀ i₀ out next k i = Pathing h cells out₀ at out next k i

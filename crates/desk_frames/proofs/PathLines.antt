@@ -11,8 +11,8 @@ use Rattle.meaning.specs.Lists.{gather}
 use Rattle.meaning.specs.Paths.{Path}
 use Rattle.meaning.specs.Verdict.{cellsOf}
 use Rattle.meaning.specs.Desk.{line, pathFrame, pathFrames}
-use Rattle.frames.specs.Lines.{Wrote, Bytes, cellPaths, WholePaths}
-use Rattle.frames.proofs.Lines.{wrote-none, wrote-then, wrote-length, line-length}
+use Rattle.desk_frames.specs.Lines.{Wrote, Bytes, cellPaths, WholePaths}
+use Rattle.desk_frames.proofs.Lines.{wrote-none, wrote-then, wrote-length, line-length}
 
 -- ---- the next path of the cells
 

@@ -1,7 +1,7 @@
 use borrow.Author.Tests.{lt-ltb, le-ltb}
 use borrow.Author.Needs.{needs}
-use Rattle.frames.proofs.line.digit.Statement.{statement}
-use Rattle.frames.proofs.line.digit.Tie as tie
+use Rattle.desk_frames.proofs.line.digit.Statement.{statement}
+use Rattle.desk_frames.proofs.line.digit.Tie as tie
 
 add-result : tie.Need-add-result
 add-result c = search needs
