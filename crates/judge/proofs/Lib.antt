@@ -6,3 +6,5 @@ pub mod Placing
 pub mod Witnesses
 pub mod Joining
 pub mod Walking
+pub mod Sheet
+pub mod OneVertex

@@ -1,10 +1,15 @@
 // One vertex under the tasks of higher priority: their stretches are filled, the groups walked, the needed cells cleared.
 use crate::above::Above;
+use crate::above::count_above;
 use crate::areas::clear;
 use crate::stretches::fill_above;
 use crate::witness::write_witness;
+use kinds::Refusal;
+use kinds::RefusedAt;
+use kinds::TaskNumber;
 use kinds::Ticks;
 use kinds::Verdict;
+use kinds::VertexNumber;
 use table::Table;
 use walk::Ending;
 use walk::run;
@@ -14,6 +19,8 @@ ghost use lib.ListN.{length};
 ghost use Rattle.meaning.specs.Bounds.{largestE};
 ghost use Rattle.meaning.specs.Table.{higher};
 ghost use Rattle.meaning.specs.Verdict.{walked};
+ghost use Rattle.meaning.specs.Areas.{workNeed};
+ghost use Rattle.meaning.specs.Judge.{judged};
 ghost use Rattle.table.specs.Record.{tableOf};
 ghost use Rattle.judge.specs.Above.{Held, pathCounts, Counted};
 ghost use Rattle.judge.specs.Judged.{Answered};
@@ -50,4 +57,49 @@ pub(crate) fn walk_above(
             Verdict::Misses(count, cells as u32)
         }
     }
+}
+
+fn refused(refusal: Refusal, place: u32) -> Verdict
+    ensures { λ r. ⌜ r ≡ Verdict.Refused (record { refusal = refusal; place = place }) ⌝ }
+{
+    Verdict::Refused(RefusedAt { refusal, place })
+}
+
+// "After the text: 8, 9, 10, 11."
+pub(crate) fn judge_vertex(
+    t: Table,
+    task: TaskNumber,
+    vertex: VertexNumber,
+    budget: u32,
+    work: &mut [u32],
+    witness: &mut [u16],
+) -> Verdict
+    requires { ⌜ Held t ⌝ }
+    ensures { λ r. ⌜ Answered (judged (tableOf t) (task .0) (vertex .0) budget (length (now (work .entry))) (length (now (witness .entry)))) (workNeed (tableOf t) (task .0) (vertex .0)) (now (work .entry)) (now (witness .entry)) r (now (work .exit)) (now (witness .exit)) ⌝ }
+{
+    let h = task.0 as usize;
+    if t.n <= h {
+        return refused(Refusal::NoSuchVertex, 0);
+    }
+    let own = t.tasks[h];
+    let v = vertex.0 as usize;
+    if own.nv <= v {
+        return refused(Refusal::NoSuchVertex, 0);
+    }
+    let job = own.vertices[v];
+    let above = count_above(t, h, job.d);
+    let crowded = above.crowded;
+    if crowded < h {
+        return refused(Refusal::TooManyPaths, crowded as u32);
+    }
+    let d = job.d.0 as usize;
+    let need = above.rows * d;
+    if work.len() < need {
+        return refused(Refusal::WorkTooShort, need as u32);
+    }
+    let cells = h * (1 + d);
+    if witness.len() < cells {
+        return refused(Refusal::WitnessTooShort, cells as u32);
+    }
+    walk_above(t, above, h, job.e, job.d, budget, work, witness)
 }
