@@ -1,6 +1,6 @@
 -- The overload test on rows, cell by cell and tick by tick. Assumes nothing.
-use mathlib.Core.Path.{_≡_, refl, ap, ap₂, _∙_}
-use Prim.Native.Nat.{ℕ, zero, suc, _+_, _-_, _≤_, _<_}
+use mathlib.Core.Path.{_≡_, refl, sym, ap, ap₂, _∙_}
+use Prim.Native.Nat.{ℕ, zero, suc, _+_, _-_, _*_, _≤_, _<_}
 use native.Mathlib.Nat.{add-zero}
 use native.Mathlib.Omega.{arith}
 use native.Mathlib.Numerals.{add-one}
@@ -14,14 +14,11 @@ use Rattle.meaning.specs.Lists.{all, sum, countFrom}
 use Rattle.meaning.specs.Groups.{exceeds}
 use Rattle.meaning.proofs.Lists.{map-append, sum-append}
 use Rattle.walk.specs.Rows.{loadsAt, rowsOverload}
+use Rattle.walk.specs.Lent.{light}
 
 -- ---- the sum, cell by cell
 
-pub loads-none : (work base : List ℕ) (t : ℕ) → 0 ≡ loadsAt work (take 0 base) t
-unfolding loadsAt
-loads-none work base t = refl
-
-pub loads-more : (work base : List ℕ) (t j : ℕ) → j < length base
+loads-more : (work base : List ℕ) (t j : ℕ) → j < length base
     → loadsAt work (take (j + 1) base) t ≡ loadsAt work (take j base) t + getD work (getD base j 0 + t) 0
 unfolding loadsAt
 loads-more work base t j h =
@@ -30,31 +27,55 @@ loads-more work base t j h =
     ∙ sum-append (map (λ (b : ℕ). getD work (b + t) 0) (take j base)) (getD work (getD base j 0 + t) 0 ∷ [])
     ∙ ap (λ (n : ℕ). loadsAt work (take j base) t + n) (add-zero (getD work (getD base j 0 + t) 0)))
 
+-- the cells of the first j tasks, t places behind their rows' starts, have this sum
+pub record Summed (work base : List ℕ) (t j total : ℕ) : Type 0 where
+  pub is : total ≡ loadsAt work (take j base) t
+  pub small : total ≤ light * j
+
+pub summed-none : {work base : List ℕ} {t : ℕ} → Summed work base t 0 0
+unfolding loadsAt
+summed-none = record { is = refl; small = omega arith }
+
+pub summed-more : {work base : List ℕ} {t j total : ℕ} → Summed work base t j total → j < length base → getD work (getD base j 0 + t) 0 ≤ light
+    → Summed work base t (j + 1) (total + getD work (getD base j 0 + t) 0)
+summed-more {work} {base} {t} {j} s l k =
+    record { is = ap (λ (z : ℕ). z + getD work (getD base j 0 + t) 0) (s .is) ∙ sym (loads-more work base t j l); small = omega (arith, s .small) }
+
+pub summed-all : {work base : List ℕ} {t j total : ℕ} → Summed work base t j total → (h : ℕ) → j ≡ h → total ≡ loadsAt work (take h base) t
+summed-all {work} {base} {t} s h e = s .is ∙ ap (λ (z : ℕ). loadsAt work (take z base) t) e
+
 -- ---- the ticks, one by one
 
 -- the test at the ticks behind t
-abbrev pub behindTick : List ℕ → ℕ → ℕ → List ℕ → ℕ → Bool
+abbrev behindTick : List ℕ → ℕ → ℕ → List ℕ → ℕ → Bool
 behindTick work d e base t = all (λ (u : ℕ). ltb u (e + loadsAt work base (u - 1))) (countFrom (suc t) (d - t))
 
-module _ (work : List ℕ) (d e : ℕ) (base : List ℕ) where
-  pub ticks-start : rowsOverload work d e base ≡ behindTick work d e base 0
+-- no tick up to t is free
+pub record Looked (work : List ℕ) (d e : ℕ) (base : List ℕ) (t : ℕ) : Type 0 where
+  pub most : t ≤ d
+  pub same : rowsOverload work d e base ≡ behindTick work d e base t
+
+module _ {work : List ℕ} {d e : ℕ} {base : List ℕ} where
+  pub looked-none : Looked work d e base 0
   unfolding rowsOverload
-  ticks-start = let h : d - 0 ≡ d = omega arith in rw h
+  looked-none = let h : d - 0 ≡ d = omega arith in record { most = omega arith; same = rw h }
 
-  tick-one : (t : ℕ) → t < d → behindTick work d e base t ≡ (ltb (suc t) (e + loadsAt work base t) && behindTick work d e base (t + 1))
-  tick-one t h =
-      let p : d - t ≡ suc (d - (t + 1)) = omega arith in
-      let q : suc t - 1 ≡ t = omega arith in
-      rw (p, q, add-one t)
+  module _ {t : ℕ} (k : Looked work d e base t) where
+    module _ {x : ℕ} (is : x ≡ loadsAt work base t) (l : t < d) where
+      tick-one : behindTick work d e base t ≡ (ltb (suc t) (e + x) && behindTick work d e base (t + 1))
+      tick-one =
+          let p : d - t ≡ suc (d - (t + 1)) = omega arith in
+          let q : suc t - 1 ≡ t = omega arith in
+          rw (is, p, q, add-one t)
 
-  pub ticks-free : (t : ℕ) → t < d → e + loadsAt work base t ≤ t + 1 → behindTick work d e base t ≡ false
-  ticks-free t h l = tick-one t h ∙ rw (le-ltb (suc t) (e + loadsAt work base t) (omega arith))
+      pub looked-free : e + x ≤ t + 1 → false ≡ rowsOverload work d e base
+      looked-free f = sym (k .same ∙ tick-one ∙ rw (le-ltb (suc t) (e + x) (omega arith)))
 
-  pub ticks-more : (t : ℕ) → t < d → t + 1 < e + loadsAt work base t → behindTick work d e base t ≡ behindTick work d e base (t + 1)
-  ticks-more t h l = tick-one t h ∙ rw (lt-ltb (suc t) (e + loadsAt work base t) (omega arith))
+      pub looked-more : t + 1 < e + x → Looked work d e base (t + 1)
+      looked-more f = record { most = omega arith; same = k .same ∙ tick-one ∙ rw (lt-ltb (suc t) (e + x) (omega arith)) }
 
-  pub ticks-all : (t : ℕ) → d ≤ t → behindTick work d e base t ≡ true
-  ticks-all t h = let p : d - t ≡ 0 = omega arith in rw p
+    pub looked-all : d ≤ t → true ≡ rowsOverload work d e base
+    looked-all l = let p : d - t ≡ 0 = omega arith in sym (k .same ∙ rw p)
 
 -- the test is the same where the loads are, from 1 to d
 all-same : (f g : ℕ → Bool) (k n : ℕ) → ((t : ℕ) → k ≤ t → t < k + n → f t ≡ g t) → all f (countFrom k n) ≡ all g (countFrom k n)

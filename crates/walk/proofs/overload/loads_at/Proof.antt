@@ -1,21 +1,17 @@
 use native.Mathlib.Omega.{arith}
-use mathlib.Core.Path.{_≡_, sym, ap, _∙_}
-use Prim.Native.Nat.{ℕ, _≤_, _-_, _+_, _*_}
-use lib.ListN.{take, getD}
-use Rattle.walk.specs.Rows.{loadsAt}
-use Rattle.walk.specs.Lent.{light}
-use Rattle.walk.proofs.Ticks.{loads-none, loads-more}
+use Prim.Native.Nat.{_≤_, _-_}
+use Rattle.walk.proofs.Ticks.{Summed, summed-none, summed-more, summed-all}
 use Rattle.walk.proofs.overload.loads_at.Statement.{statement}
 use Rattle.walk.proofs.overload.loads_at.Tie as tie
 
 abbrev Inv-loop : tie.InvT-loop
-Inv-loop work base h d t sum₀ j₀ sum j = (j ≤ h) × (sum ≡ loadsAt work (take j base) t) × (sum ≤ light * j)
+Inv-loop work base h d t sum₀ j₀ sum j = (j ≤ h) × Summed work base t j sum
 
 abbrev μ-loop : tie.MeasureT-loop
 μ-loop work base h d t sum₀ j₀ sum j = h - j
 
 loop-holds : tie.Need-loop-holds Inv-loop μ-loop
-loop-holds c = (omega arith, loads-none (c .args .work .now) (c .args .base .now) (c .args .t), omega arith)
+loop-holds c = (omega arith, summed-none)
 
 mul-i : tie.Need-mul-i Inv-loop μ-loop
 mul-i c = omega arith
@@ -42,10 +38,10 @@ loop-less : tie.Need-loop-less Inv-loop μ-loop
 loop-less c = omega arith
 
 loop-again : tie.Need-loop-again Inv-loop μ-loop
-loop-again c = let l = c .before .before .before in let s = l .before in let a = s .args in let w = s .pre .2 .cells (l .loop .j) (omega arith) (s .args .t) (s .pre .1) in (omega arith, ap (λ (z : ℕ). z + getD (a .work .now) (getD (a .base .now) (l .loop .j) 0 + a .t) 0) (l .loop .inv .1) ∙ sym (loads-more (a .work .now) (a .base .now) (a .t) (l .loop .j) (omega arith)), omega arith)
+loop-again c = let l = c .before .before .before in let s = l .before in (omega arith, summed-more (l .loop .inv .1) (omega arith) (s .pre .2 .cells (l .loop .j) (omega arith) (s .args .t) (s .pre .1)))
 
 returns : tie.Need-returns Inv-loop μ-loop
-returns c = let l = c .before in let a = l .before .args in let e : l .loop .j ≡ a .h = omega arith in (l .loop .inv .1 ∙ ap (λ (z : ℕ). loadsAt (a .work .now) (take z (a .base .now)) (a .t)) e, omega arith)
+returns c = let l = c .before in (summed-all (l .loop .inv .1) (l .before .args .h) (omega arith), omega arith)
 
 pub loads-at-spec : {M : Type 1} → statement M
 loads-at-spec =
