@@ -11,3 +11,5 @@ pub mod EdgeStarts
 pub mod TaskColumns
 pub mod ByValue
 pub mod Readiness
+pub mod Following
+pub mod CountLoop

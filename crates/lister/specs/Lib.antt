@@ -2,3 +2,4 @@ pub mod Columns
 pub mod Ways
 pub mod Rows
 pub mod Place
+pub mod Follow

@@ -1,4 +1,5 @@
 // How many complete paths there are, by recursion over the edges, which stops at the cap.
+use crate::follow::follow;
 use crate::numbers::index;
 use crate::numbers::separation;
 ghost use mathlib.Core.Path.{_≡_};
@@ -21,16 +22,19 @@ fn count_from(
     requires { ⌜ (v < mostVertices) × (0 < r) × (0 < cap) × (cap ≤ mostCounted) ⌝ }
     ensures { λ c. ⌜ c ≡ min cap (length (ways (now (start .entry)) (now (to .entry)) (now (p .entry)) v r)) ⌝ }
 {
-    let end = index(start[v + 1]);
-    let mut k = index(start[v]);
+    let s = follow(start, to, p, v, r);
+    let u = s.v;
+    let left = s.r;
+    let end = index(start[u + 1]);
+    let mut k = index(start[u]);
     let mut sum: usize = 0;
     while k < end {
         let q = separation(p[k]);
-        if r <= q {
+        if left <= q {
             k += 1;
             continue;
         }
-        sum += count_from(start, to, p, index(to[k]), r - q, cap - sum);
+        sum += count_from(start, to, p, index(to[k]), left - q, cap - sum);
         if sum == cap {
             return cap;
         }

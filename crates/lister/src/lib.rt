@@ -5,6 +5,7 @@
 // How many complete paths a task has for a horizon, the one at a place of the order, and the loads of them all.
 mod columns;
 mod count;
+mod follow;
 mod numbers;
 mod place;
 mod rows;

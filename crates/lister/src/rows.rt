@@ -1,5 +1,6 @@
 // The loads of each complete path at t from 1 to d, in every other row of a stretch. They are written by runs, since a path's load stays the same
 // from one release to the next, and one recursion over the edges carries the loads of the prefix.
+use crate::follow::follow_row;
 use crate::numbers::execution;
 use crate::numbers::index;
 use crate::numbers::separation;
@@ -13,7 +14,7 @@ ghost use Rattle.lister.specs.Ways.{ways, allWays};
 ghost use Rattle.lister.specs.Rows.{Room, RowsPut, putRows, wayRows};
 
 // The cells from a up to b become x.
-fn fill_run(row: &mut [u32; 200], a: usize, b: usize, x: u32)
+pub(crate) fn fill_run(row: &mut [u32; 200], a: usize, b: usize, x: u32)
     requires { ⌜ (a ≤ b) × (b ≤ largestD) ⌝ }
     ensures { λ _. ⌜ now (row .exit) ≡ sets (now (row .entry)) a (replicate (b - a) x) ⌝ }
 {
@@ -56,22 +57,25 @@ fn rows_from(
     requires { ⌜ Room d (i + length (ways (now start) (now to) (now p) v (d - span))) (length (now part)) ⌝ }
     ensures { λ r. ⌜ RowsPut (now (e .entry)) (now (start .entry)) (now (to .entry)) (now (p .entry)) d v span below i (now (part .entry)) (now (row .entry)) (now (part .exit)) (now (row .exit)) r ⌝ }
 {
-    let total = below + execution(e[v]);
-    let end = index(start[v + 1]);
-    let mut k = index(start[v]);
+    let s = follow_row(row, d, e, start, to, p, v, span, below);
+    let u = s.v;
+    let at = s.span;
+    let total = s.below + execution(e[u]);
+    let end = index(start[u + 1]);
+    let mut k = index(start[u]);
     let mut n = i;
     while k < end {
-        let next = span + separation(p[k]);
+        let next = at + separation(p[k]);
         if d <= next {
             k += 1;
             continue;
         }
-        fill_run(row, span, next, total);
+        fill_run(row, at, next, total);
         n = rows_from(part, d, e, start, to, p, row, index(to[k]), next, total, n);
         k += 1;
     }
     if n == i {
-        fill_run(row, span, d, total);
+        fill_run(row, at, d, total);
         copy_row(part, 2 * i * d, row, d);
         return i + 1;
     }

@@ -2,7 +2,6 @@ use Prim.Native.Nat.{_-_, _*_, _≤_}
 use mathlib.Core.Path.{_≡_}
 use lib.ListN.{length}
 use Rattle.meaning.specs.Bounds.{mostPaths, largestD}
-use native.Mathlib.Omega.{arith}
 use borrow.Author.Needs.{needs}
 use Rattle.lister_bench.proofs.main.Statement.{statement}
 use Rattle.lister_bench.proofs.main.Tie as tie
