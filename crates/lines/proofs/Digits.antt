@@ -1,17 +1,17 @@
 -- A byte is a digit or foreign, by its worth as by the definition. Assumes nothing.
 use mathlib.Core.Path.{_≡_, refl, sym, subst, _∙_}
-use Prim.Native.Nat.{ℕ, zero, suc, _+_, _-_, _≤_, _<_}
+use Prim.Native.Nat.{ℕ, zero, suc, _+_, _-_, _*_, _≤_, _<_}
 use native.Mathlib.Omega.{arith}
 use native.Mathlib.Nat.{add-zero, zero-add, add-suc, suc-add}
 use mathlib.Core.Bool.{Bool, true, false, _&&_}
-use mathlib.Core.Option.{Option, none, some}
+use mathlib.Core.Option.{none, some}
 use mathlib.Core.List.{List, [], _∷_}
 use lib.ListN.{length, getD}
 use lib.Dec.{T, leb, ltb, eqb, eqb→eq}
 use borrow.Author.Tests.{ltb-true, ltb-false, leb-true, leb-false, le-leb, lt-leb, ne-eqb}
 use Rattle.meaning.specs.Text.{lineFeed, digitOf}
 use Rattle.meaning.proofs.Lists.{both-left, both-right}
-use Rattle.lines.specs.Digits.{foreignWorth, worthOf, Worths}
+use Rattle.lines.specs.Digits.{foreignWorth, worthOf, Worths, pairAt}
 
 pub data Digit (b : ℕ) : Type 0 where
   digit : worthOf b < 16 → 48 ≤ b → (worthOf b < 10 → b ≡ worthOf b + 48) → digitOf b ≡ some (worthOf b) → Digit b
@@ -50,6 +50,9 @@ below-foreign b k = elim (digit-or-foreign b) [ digit l p q f ↦ l | foreign e 
 
 pub worth-most : (b : ℕ) → worthOf b ≤ foreignWorth
 worth-most b = elim (digit-or-foreign b) [ digit l p q f ↦ omega arith | foreign e f ↦ omega arith ]
+
+pub pair-most : (t : List ℕ) (i : ℕ) → pairAt t i ≤ 17 * foreignWorth
+pair-most t i = omega (arith, worth-most (getD t i 0), worth-most (getD t (i + 1) 0))
 
 pub not-feed : (b : ℕ) → worthOf b < 16 → eqb b lineFeed ≡ false
 not-feed b k = elim (digit-or-foreign b) [ digit l p q f ↦ ne-eqb b lineFeed (λ z. omega arith) | foreign e f ↦ absurd (omega arith) ]

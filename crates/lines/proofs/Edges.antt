@@ -21,7 +21,7 @@ use Rattle.lines.specs.declared.EdgeLine.the-variants.{EdgeTaken, EdgeRe
 use Rattle.lines.specs.declared.EdgeLines.{EdgeLines}
 use Rattle.lines.specs.declared.Outcome.the-variants.{AllTaken, StoppedBy}
 use Rattle.lines.specs.Digits.{worthOf, pairAt, wordAt}
-use Rattle.lines.specs.Frames.{partDigits, partBytes, faultOf, startsWith, edgeIn, edgePlace, edgeLine}
+use Rattle.lines.specs.Frames.{partDigits, partBytes, startsWith, edgeIn, edgePlace, edgeLine}
 use Rattle.lines.specs.Parts.{edgesOn}
 use Rattle.lines.proofs.Spelled.{Spelled, readStep, right-read}
 use Rattle.lines.proofs.Expected.{both-true, same-pick, fault-law, pairsAt, spelled-of, Starts, starts-says, framed-bytes, not-frame, fails}

@@ -7,3 +7,6 @@ pub mod Vertices
 pub mod Edges
 pub mod TaskOrEnd
 pub mod TaskRead
+pub mod Counting
+pub mod Answers
+pub mod Turns

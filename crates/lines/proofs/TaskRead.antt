@@ -1,9 +1,9 @@
 -- The lines of a task, its vertices and then its edges, are read as they mean. Assumes nothing.
 use mathlib.Core.Path.{_≡_, refl, sym, ap, subst, _∙_}
-use Prim.Native.Nat.{ℕ, suc, _+_, _*_, _≤_, _<_}
+use Prim.Native.Nat.{ℕ, _+_, _*_, _≤_}
 use native.Mathlib.Omega.{arith}
-use mathlib.Core.List.{List, [], _∷_}
-use lib.ListN.{length, drop, replicate}
+use mathlib.Core.List.{List, []}
+use lib.ListN.{length, drop, replicate, length-drop}
 use lib.Seq.{drop-drop}
 use Rattle.meaning.specs.Bounds.{mostVertices, mostEdges}
 use Rattle.meaning.specs.Table as Meant
@@ -11,14 +11,16 @@ use Rattle.meaning.specs.Text.{linesOf, Reading, unreadable, readFrom}
 use Rattle.kinds.specs.declared.Refusal.{Refusal}
 use Rattle.kinds.specs.Numbers.{refusalNumber}
 use Rattle.table.specs.Record.{padded, noVertex, noEdge, noTask, verticesRecord, edgesRecord, taskRecord}
+use Rattle.lines.specs.declared.Outcome.{Outcome}
 use Rattle.lines.specs.declared.Outcome.the-variants.{AllTaken, StoppedBy}
 use Rattle.lines.specs.declared.VertexLines.{VertexLines}
 use Rattle.lines.specs.declared.EdgeLines.{EdgeLines}
 use Rattle.lines.specs.declared.TaskLines.{TaskLines}
 use Rattle.lines.specs.Frames.{partBytes}
-use Rattle.lines.specs.Parts.{verticesOn, vertexLines, edgesOn, edgeLines, taskWith, taskLines}
-use Rattle.lines.proofs.Vertices.{VerticesGive, all-vertices, no-vertex, vertices-run}
-use Rattle.lines.proofs.Edges.{EdgesGive, all-edges, no-edge, follows-none, edges-run}
+use Rattle.lines.specs.Parts.{vertexLines, edgesOn, edgeLines, taskWith, taskLines}
+use Rattle.lines.proofs.Vertices.{VerticesGive, all-vertices, no-vertex, vertices-run, vertices-reach}
+use Rattle.lines.proofs.Edges.{EdgesGive, all-edges, no-edge, follows-none, edges-run, edges-reach}
+use Rattle.lines.proofs.Reach.{Reach}
 
 no-vertices : verticesRecord [] ≡ replicate mostVertices noVertex
 unfolding padded
@@ -72,3 +74,23 @@ module _ (ts : List Meant.Task) (l v e : ℕ) (t : List ℕ) (v-in : v ≤ mostV
       let o : l + 0 ≡ l = omega arith in
       let run : VerticesGive R ts e l v (drop (v * partBytes) t) (vertexLines v t) = rw (o, no-vertices) at (vertices-run ts e l v v [] t (omega arith) v-in) in
       with-vertices R (vertexLines v t) run
+
+-- ---- how far they reach
+
+reach-stops : (n m : ℕ) (t : List ℕ) (c : ℕ) (w : Refusal) → c ≤ n → n ≤ m → Reach 0 m t c (StoppedBy w)
+reach-stops n m t c w h k = record { few = omega arith; room = λ e. absurd (let z : _≡_ {A = ℕ} 0 1 = cc in omega arith) }
+
+pub task-reach : (v e : ℕ) (t : List ℕ) → Reach 0 (v + e) t (taskLines v e t .count) (taskLines v e t .outcome)
+unfolding taskLines
+task-reach v e t = go (a .outcome) refl (b .outcome) refl (vertices-reach 0 (replicate mostVertices noVertex) v t) (edges-reach v (a .vertices) 0 (replicate mostEdges noEdge) 0 e (drop (v * partBytes) t))
+  where
+    a : VertexLines
+    a = vertexLines v t
+
+    b : EdgeLines
+    b = edgeLines v (a .vertices) e (drop (v * partBytes) t)
+
+    go : (x : Outcome) → a .outcome ≡ x → (y : Outcome) → b .outcome ≡ y → Reach 0 v t (a .count) (a .outcome) → Reach 0 e (drop (v * partBytes) t) (b .count) (b .outcome) → Reach 0 (v + e) t (taskWith v e a b .count) (taskWith v e a b .outcome)
+    go (StoppedBy w) p y q r s = rw p (reach-stops v (v + e) t (a .count) w (omega (arith, r .few)) (omega arith))
+    go AllTaken p (StoppedBy w) q r s = rw (p, q) (reach-stops (v + e) (v + e) t (v + b .count) w (omega (arith, s .few)) (omega arith))
+    go AllTaken p AllTaken q r s = rw (p, q) (record { few = omega arith; room = λ z. omega (arith, r .room p, s .room q, length-drop (v * partBytes) t) })

@@ -1,5 +1,5 @@
 -- A vertex's line, and the lines of a task's vertices, are read as they mean. Assumes nothing.
-use mathlib.Core.Path.{_≡_, refl, sym, ap, _∙_}
+use mathlib.Core.Path.{_≡_, refl, ap, _∙_}
 use Prim.Native.Nat.{ℕ, zero, suc, _+_, _-_, _*_, _≤_, _<_}
 use native.Mathlib.Omega.{arith}
 use mathlib.Core.Bool.{Bool, true, false}
@@ -22,7 +22,6 @@ use Rattle.lines.specs.declared.Outcome.the-variants.{AllTaken, StoppedB
 use Rattle.lines.specs.Digits.{worthOf, pairAt, wordAt}
 use Rattle.lines.specs.Frames.{partDigits, partBytes, faultOf, startsWith, vertexIn, vertexLine}
 use Rattle.lines.specs.Parts.{verticesOn}
-use Rattle.lines.proofs.Digits.{worth-low}
 use Rattle.lines.proofs.Spelled.{Spelled, right-read}
 use Rattle.lines.proofs.Expected.{both-true, same-pick, fault-law, pairsAt, spelled-of, Starts, starts-says, framed-bytes, not-frame, fails}
 use Rattle.lines.proofs.Reach.{drop-part, Reach, reach-none, reach-stopped, reach-more}
