@@ -14,8 +14,6 @@ ghost use Rattle.meaning.specs.Text.{read, packed};
 ghost use Rattle.meaning.specs.Demands.{lastLine};
 ghost use Rattle.reader.specs.Record.{refusedRecord, readingRecord};
 
-mod digits; // digits.rt: what stands at a place of a text
-mod frames; // frames.rt: one line
 mod parts; // parts.rt: the lines of a task
 
 pub enum Status {
@@ -46,7 +44,7 @@ pub(crate) fn refused(refusal: Refusal, line: usize) -> Reading
 pub fn read(text: &[u8]) -> Reading
     ensures { λ r. ⌜ r ≡ readingRecord (read (now (text .entry))) ⌝ }
 {
-    let worths = digits::worths();
+    let worths = frames::digits::worths();
     let mut table = table::no_table();
     let mut at = 0;
     let mut line = 1;

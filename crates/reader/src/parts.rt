@@ -1,6 +1,6 @@
 // "A task frame is followed by its vertices, numbered from 0, then its edges in strictly rising order of (from, to)."
-use crate::frames::edge_line;
-use crate::frames::vertex_line;
+use frames::edge_line;
+use frames::vertex_line;
 use kinds::Refusal;
 use lines::EdgeLine;
 use lines::EdgeLines;
