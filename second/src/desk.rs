@@ -1,7 +1,7 @@
 //! The desk program's output.
 
 use crate::bounds::{BUDGET, INPUT_BYTES, WITNESS_CELLS, WORK_CELLS};
-use crate::bounds::{COUNTS_FRAME, PATH_FRAME, REFUSED_FRAME, VERDICT_FRAME};
+use crate::bounds::{COUNTS_FRAME, END_FRAME, PATH_FRAME, REFUSED_FRAME, VERDICT_FRAME};
 use crate::bounds::{MEETS, MISSES, REFUSED, UNFINISHED};
 use crate::judge::{judge_vertex, Counts, Verdict};
 use crate::refusal::{Refusal, Row};
@@ -16,6 +16,16 @@ pub fn output(input: &[u8]) -> String {
         Err(refusal) => write_refusal(&mut lines, &refusal),
     }
     lines
+}
+
+/// The text check as a line: the frame of a refused text, the end frame for a readable one.
+pub fn check(text: &[u8]) -> String {
+    let mut line = String::new();
+    match text::read(text) {
+        Ok(_) => write_frame(&mut line, &[END_FRAME]),
+        Err(refusal) => write_refusal(&mut line, &refusal),
+    }
+    line
 }
 
 /// Reads an input: refusal 12 before all, then as a text.

@@ -1,4 +1,4 @@
-//! The desk program: one input, or with the argument `many` a sequence of texts.
+//! The desk program: one input, or with the argument `many` a sequence of texts. With `check`, only the text check of each.
 
 #![forbid(unsafe_code)]
 
@@ -14,8 +14,9 @@ fn main() -> ExitCode {
     let result = match arguments.as_slice() {
         [] => one(),
         [argument] if argument == "many" => many(),
+        [argument] if argument == "check" => check(),
         _ => {
-            complain("usage: second [many]");
+            complain("usage: second [many | check]");
             return ExitCode::from(2);
         }
     };
@@ -50,6 +51,16 @@ fn many() -> io::Result<()> {
         // An output is far shorter than 4 bytes can count.
         target.write_all(&(output.len() as u32).to_be_bytes())?;
         target.write_all(output.as_bytes())?;
+    }
+    target.flush()
+}
+
+/// Checks each text of a sequence: a line for each.
+fn check() -> io::Result<()> {
+    let mut source = BufReader::new(io::stdin().lock());
+    let mut target = BufWriter::new(io::stdout().lock());
+    while let Some(text) = next_text(&mut source)? {
+        target.write_all(desk::check(&text).as_bytes())?;
     }
     target.flush()
 }

@@ -1,4 +1,4 @@
-//! The program itself: its two ways to run, and its exit statuses.
+//! The program itself: its three ways to run, and its exit statuses.
 
 mod common;
 
@@ -68,10 +68,23 @@ fn many_texts() {
 }
 
 #[test]
-fn no_texts() {
-    let found = run(&["many"], b"");
+fn checked_texts() {
+    let r1 = text(&r1(2));
+    let texts = [r1.as_bytes(), b"", b"00\n", &[0; 9_000], b"010101\n02"];
+    let found = run(&["check"], &texts.map(with_length).concat());
+    let expected = "00\n1e060001\n1e020001\n1e010001\n1e010002\n";
+    assert_eq!(found.stdout, expected.as_bytes());
     assert_eq!(found.status.code(), Some(0));
-    assert!(found.stdout.is_empty() && found.stderr.is_empty());
+    assert!(found.stderr.is_empty());
+}
+
+#[test]
+fn no_texts() {
+    for mode in ["many", "check"] {
+        let found = run(&[mode], b"");
+        assert_eq!(found.status.code(), Some(0));
+        assert!(found.stdout.is_empty() && found.stderr.is_empty());
+    }
 }
 
 #[test]
@@ -80,9 +93,11 @@ fn a_broken_sequence() {
     let beginnings = (1..whole.len()).map(|end| whole[..end].to_vec());
     for broken in beginnings.chain([vec![0xff; 4], vec![0xff; 100]]) {
         for sequence in [broken.clone(), [whole.clone(), broken].concat()] {
-            let found = run(&["many"], &sequence);
-            assert_eq!(found.status.code(), Some(1));
-            assert!(!found.stderr.is_empty());
+            for mode in ["many", "check"] {
+                let found = run(&[mode], &sequence);
+                assert_eq!(found.status.code(), Some(1));
+                assert!(!found.stderr.is_empty());
+            }
         }
     }
 }

@@ -1,0 +1,62 @@
+use Rattle.lines.proofs.Answers.{held, failed, VertexSeen, vertex-kind, vertex-outside, vertex-taken}
+use Rattle.lines.proofs.Vertices.{VertexBounds, vertex-bounds}
+use Rattle.lines.proofs.Expected.{starts-says}
+use native.Mathlib.Omega.{arith}
+use borrow.Author.Needs.{needs}
+use Rattle.frames.proofs.vertex_line.Statement.{statement}
+use Rattle.frames.proofs.vertex_line.Tie as tie
+
+seen : (c : tie.After-vertex-in) → VertexSeen (c .before .before .before .before .before .before .args .text .now) (c .before .before .word-at .result) (c .before .word-at2 .result)
+seen c = record { starts = held (c .before .before .before .before .starts .ensures) (c .before .before .before .if1 .left); e-there = (c .before .before .word-at .ensures); d-there = (c .before .word-at2 .ensures) }
+
+inside : (c : tie.Else2) → VertexBounds (c .before .before .before .word-at .result) (c .before .before .word-at2 .result)
+inside c = vertex-bounds _ _ (held (c .before .vertex-in .ensures) (c .if2 .left))
+
+starts-requires : tie.Need-starts-requires
+starts-requires c κs = search needs
+
+fault-requires : tie.Need-fault-requires
+fault-requires c κs = search needs
+
+returns : tie.Need-returns
+returns c = vertex-kind (c .before .before .before .before .args .text .now) (failed (c .before .before .starts .ensures) (c .before .if1 .taken)) (c .fault .ensures)
+
+word-at-requires : tie.Need-word-at-requires
+word-at-requires c κs = (omega (arith, starts-says _ _ _ (held (c .before .starts .ensures) (c .if1 .left)) .long), (c .before .before .before .pre))
+
+word-at-requires-2 : tie.Need-word-at-requires-2
+word-at-requires-2 c κs = (omega (arith, starts-says _ _ _ (held (c .before .before .starts .ensures) (c .before .if1 .left)) .long), (c .before .before .before .before .pre))
+
+vertex-in-requires : tie.Need-vertex-in-requires
+vertex-in-requires c κs = search needs
+
+fault-requires-2 : tie.Need-fault-requires-2
+fault-requires-2 c κs = search needs
+
+returns-2 : tie.Need-returns-2
+returns-2 c = vertex-outside (seen (c .before .before)) (failed (c .before .before .vertex-in .ensures) (c .before .if2 .taken)) (c .fault2 .ensures)
+
+cast-t11 : tie.Need-cast-t11
+cast-t11 c = omega (arith, inside c .e-in)
+
+cast-t13 : tie.Need-cast-t13
+cast-t13 c = omega (arith, inside c .d-in)
+
+returns-3 : tie.Need-returns-3
+returns-3 c = vertex-taken (seen (c .before)) (held (c .before .vertex-in .ensures) (c .if2 .left))
+
+pub vertex-line-spec : {M : Type 1} → statement M
+vertex-line-spec =
+    tie.close
+    (tie.spec
+    starts-requires
+    fault-requires
+    returns
+    word-at-requires
+    word-at-requires-2
+    vertex-in-requires
+    fault-requires-2
+    returns-2
+    cast-t11
+    cast-t13
+    returns-3)

@@ -1,0 +1,184 @@
+// "The table text is lines of hexadecimal, one frame a line: an even number of digits 0-9a-f, at least two, then a line feed."
+//
+// One line: whether the frame that must stand there does, and by which row of the refusal sheet the line is refused where it does not. A line
+// is looked through for the reason only where the expected frame fails.
+use crate::digits::line_digits;
+use crate::digits::pair_at;
+use crate::digits::word_at;
+use kinds::Refusal;
+use kinds::Ticks;
+use kinds::VertexNumber;
+use lines::EdgeLine;
+use lines::TaskOrEndLine;
+use lines::VertexLine;
+use table::Edge;
+use table::Vertex;
+ghost use mathlib.Core.Path.{_≡_};
+ghost use Prim.Native.Nat.{_<_, _≤_};
+ghost use Rattle.lines.specs.Digits.{Worths};
+ghost use Rattle.lines.specs.Frames.{faultOf, startsWith, vertexIn, vertexLine, edgeIn, edgeLine, endLine, taskIn, taskOrEndLine};
+
+pub mod digits; // digits.rt: what stands at a place of a text
+
+// How a line is refused that should have n digits: for what it is (1, 2, or 6 where there is none), and else by the row `then`.
+pub(crate) fn fault(w: &[u16; 256], text: &[u8], n: usize, then: Refusal) -> Refusal
+    requires { ⌜ Worths (now w) ⌝ }
+    ensures { λ r. ⌜ r ≡ faultOf (now (text .entry)) n then ⌝ }
+{
+    if text.len() == 0 {
+        return Refusal::NoEnd;
+    }
+    let digits = line_digits(w, text);
+    if digits == 0 {
+        return Refusal::BadLine;
+    }
+    if digits != n {
+        return Refusal::WrongFrame;
+    }
+    then
+}
+
+// Whether a line of n digits that starts with `0` and `kind` may stand here: its first two bytes, and its line feed.
+pub(crate) fn starts(text: &[u8], kind: u8, n: usize) -> bool
+    requires { ⌜ 1 < n ⌝ }
+    ensures { λ r. ⌜ r ≡ startsWith (now (text .entry)) kind n ⌝ }
+{
+    if text.len() <= n {
+        return false;
+    }
+    if text[0] != b'0' {
+        return false;
+    }
+    if text[1] != kind {
+        return false;
+    }
+    text[n] == b'\n'
+}
+
+pub(crate) fn vertex_in(e: u32, d: u32) -> bool
+    ensures { λ r. ⌜ r ≡ vertexIn e d ⌝ }
+{
+    if e < 1 {
+        return false;
+    }
+    if 1000 < e {
+        return false;
+    }
+    if d < 1 {
+        return false;
+    }
+    d <= 200
+}
+
+pub fn vertex_line(w: &[u16; 256], text: &[u8]) -> VertexLine
+    requires { ⌜ Worths (now w) ⌝ }
+    ensures { λ r. ⌜ r ≡ vertexLine (now (text .entry)) ⌝ }
+{
+    if !starts(text, b'2', 10) {
+        return VertexLine::VertexRefused(fault(w, text, 10, Refusal::WrongFrame));
+    }
+    let e = word_at(w, text, 2);
+    let d = word_at(w, text, 6);
+    if !vertex_in(e, d) {
+        return VertexLine::VertexRefused(fault(w, text, 10, Refusal::OutOfBounds));
+    }
+    VertexLine::VertexTaken(Vertex {
+        e: Ticks(e as u16),
+        d: Ticks(d as u16),
+    })
+}
+
+pub(crate) fn edge_in(n: u32, from: u32, to: u32, p: u32) -> bool
+    ensures { λ r. ⌜ r ≡ edgeIn n from to p ⌝ }
+{
+    if n <= from {
+        return false;
+    }
+    if n <= to {
+        return false;
+    }
+    if p < 1 {
+        return false;
+    }
+    p <= 1000
+}
+
+// In a task of n vertices; the edge before it leaves the places from `least` on, where (from, to) has the place from x 256 + to.
+pub fn edge_line(
+    w: &[u16; 256],
+    text: &[u8],
+    n: usize,
+    vertices: [Vertex; 12],
+    least: u32,
+) -> EdgeLine
+    requires { ⌜ (n ≤ 12) × Worths (now w) ⌝ }
+    ensures { λ r. ⌜ r ≡ edgeLine n vertices least (now (text .entry)) ⌝ }
+{
+    if !starts(text, b'3', 10) {
+        return EdgeLine::EdgeRefused(fault(w, text, 10, Refusal::WrongFrame));
+    }
+    let from = pair_at(w, text, 2);
+    let to = pair_at(w, text, 4);
+    let p = word_at(w, text, 6);
+    if !edge_in(n as u32, from, to, p) {
+        return EdgeLine::EdgeRefused(fault(w, text, 10, Refusal::OutOfBounds));
+    }
+    let v = from as usize;
+    let start = vertices[v];
+    if p < start.d.0 as u32 {
+        return EdgeLine::EdgeRefused(Refusal::DeadlineOverSeparation);
+    }
+    if from * 256 + to < least {
+        return EdgeLine::EdgeRefused(Refusal::EdgeNotAfter);
+    }
+    EdgeLine::EdgeTaken(Edge {
+        from: VertexNumber(from as u8),
+        to: VertexNumber(to as u8),
+        p: Ticks(p as u16),
+    })
+}
+
+// The end's line, after k whole tasks.
+pub(crate) fn end_line(w: &[u16; 256], text: &[u8], k: usize) -> TaskOrEndLine
+    requires { ⌜ Worths (now w) ⌝ }
+    ensures { λ r. ⌜ r ≡ endLine k (now (text .entry)) ⌝ }
+{
+    if !starts(text, b'0', 2) {
+        return TaskOrEndLine::FrameRefused(fault(w, text, 2, Refusal::WrongFrame));
+    }
+    if k == 0 {
+        return TaskOrEndLine::FrameRefused(Refusal::WrongFrame);
+    }
+    TaskOrEndLine::EndTaken
+}
+
+pub(crate) fn task_in(v: u32, e: u32) -> bool
+    ensures { λ r. ⌜ r ≡ taskIn v e ⌝ }
+{
+    if v < 1 {
+        return false;
+    }
+    if 12 < v {
+        return false;
+    }
+    e <= 32
+}
+
+// The line after k whole tasks: another task's, or the end's.
+pub fn task_or_end_line(w: &[u16; 256], text: &[u8], k: usize) -> TaskOrEndLine
+    requires { ⌜ Worths (now w) ⌝ }
+    ensures { λ r. ⌜ r ≡ taskOrEndLine k (now (text .entry)) ⌝ }
+{
+    if !starts(text, b'1', 6) {
+        return end_line(w, text, k);
+    }
+    if 8 <= k {
+        return TaskOrEndLine::FrameRefused(fault(w, text, 6, Refusal::WrongFrame));
+    }
+    let v = pair_at(w, text, 2);
+    let e = pair_at(w, text, 4);
+    if !task_in(v, e) {
+        return TaskOrEndLine::FrameRefused(fault(w, text, 6, Refusal::OutOfBounds));
+    }
+    TaskOrEndLine::TaskTaken(v as usize, e as usize)
+}

@@ -1,0 +1,46 @@
+-- The way of the reader through a text, task by task. Assumes nothing.
+use Prim.Native.Nat.{ℕ, zero, suc, _+_, _*_}
+use mathlib.Core.List.{List}
+use lib.ListN.{length, drop, set}
+use lib.Dec.{eqb}
+use Rattle.meaning.specs.Lists.{pick}
+use Rattle.meaning.specs.Bounds.{mostTasks}
+use Rattle.kinds.specs.declared.Refusal.the-variants.{WrongFrame, BytesAfterEnd}
+use Rattle.table.specs.declared.Task.{Task}
+use Rattle.table.specs.declared.Table.{Table}
+use Rattle.table.specs.Record.{noTable}
+use Rattle.lines.specs.declared.Outcome.{Outcome}
+use Rattle.lines.specs.declared.Outcome.the-variants.{AllTaken, StoppedBy}
+use Rattle.lines.specs.declared.TaskOrEndLine.{TaskOrEndLine}
+use Rattle.lines.specs.declared.TaskOrEndLine.the-variants.{TaskTaken, EndTaken, FrameRefused}
+use Rattle.lines.specs.Frames.{taskBytes, partBytes, endBytes, taskOrEndLine}
+use Rattle.lines.specs.Parts.{taskLines}
+use Rattle.reader.specs.declared.Status.the-variants.{Readable}
+use Rattle.reader.specs.declared.Reading.{Reading}
+use Rattle.reader.specs.Record.{refusedRecord}
+
+abbrev pub putTask : Table → Task → Table
+putTask t k = record { n = t .n + 1; tasks = set (t .tasks) (t .n) k }
+
+abbrev pub linesThen : Outcome → ℕ → Reading → Reading
+linesThen AllTaken n r = r
+linesThen (StoppedBy w) n r = refusedRecord w n
+
+-- with `left` bytes from the line on
+abbrev pub frameThen : TaskOrEndLine → Table → ℕ → ℕ → (ℕ → ℕ → Reading) → Reading
+frameThen (TaskTaken v e) t line left go = go v e
+frameThen EndTaken t line left go = pick (eqb left endBytes) (record { status = Readable; table = t }) (refusedRecord BytesAfterEnd (line + 1))
+frameThen (FrameRefused w) t line left go = refusedRecord w line
+
+-- the text s from a task's line on, with g tasks still allowed
+unfoldable pub tasksOn : ℕ → Table → ℕ → List ℕ → Reading
+tasksOn zero t line s = frameThen (taskOrEndLine (t .n) s) t line (length s) (λ v e. refusedRecord WrongFrame line)
+tasksOn (suc g) t line s =
+    frameThen (taskOrEndLine (t .n) s) t line (length s)
+    (λ v e.
+    let a = taskLines v e (drop taskBytes s) in
+    linesThen (a .outcome) (line + 1 + a .count)
+    (tasksOn g (putTask t (a .task)) (line + 1 + v + e) (drop (taskBytes + (v + e) * partBytes) s)))
+
+abbrev pub wholeText : List ℕ → Reading
+wholeText s = tasksOn mostTasks noTable 1 s

@@ -1,0 +1,5 @@
+pub mod Descent
+pub mod Whole
+pub mod Turn
+pub mod Result
+pub mod Check

@@ -1,0 +1,121 @@
+-- The descent by task reads a text as it means. Assumes nothing.
+use mathlib.Core.Path.{_≡_, refl, sym, ap, _∙_}
+use Prim.Native.Nat.{ℕ, zero, suc, _+_, _*_, _≤_, _<_}
+use native.Mathlib.Omega.{arith}
+use native.Mathlib.Numerals.{add-one}
+use mathlib.Core.Bool.{Bool, true, false}
+use mathlib.Core.List.{List, [], _∷_, _++_, map}
+use lib.ListN.{length, drop, set, length-drop, drop-of-length-le}
+use lib.Seq.{drop-drop}
+use lib.Dec.{eqb}
+use borrow.Author.Tests.{eqb-true, eqb-false}
+use Rattle.meaning.specs.Bounds.{mostTasks}
+use Rattle.meaning.specs.Table as Meant
+use Rattle.meaning.specs.Text as Text
+use Rattle.meaning.specs.Text.{Line, lineFeed, linesOf, intoFirst, Begun, closed, unreadable, atEnd, readFrom, read}
+use Rattle.kinds.specs.declared.Refusal.the-variants.{WrongFrame}
+use Rattle.kinds.proofs.Numbers.{refusal-of-number}
+use Rattle.table.specs.Record.{padded, noTask, noTable, taskRecord, tableRecord}
+use Rattle.lines.specs.declared.TaskOrEndLine.{TaskOrEndLine}
+use Rattle.lines.specs.declared.TaskOrEndLine.the-variants.{TaskTaken, EndTaken, FrameRefused}
+use Rattle.lines.specs.declared.TaskLines.{TaskLines}
+use Rattle.lines.specs.Frames.{taskBytes, partBytes, endBytes, endDigits, taskOrEndLine}
+use Rattle.lines.specs.Parts.{taskLines}
+use Rattle.lines.proofs.Padded.{length-snoc, padded-set}
+use Rattle.lines.proofs.TaskOrEnd.{TaskBounds, frameGives, task-or-end-read, task-has, end-long}
+use Rattle.lines.proofs.TaskRead.{TaskGives, whole-task, no-task, task-run}
+use Rattle.reader.specs.declared.Reading.{Reading}
+use Rattle.reader.specs.Record.{refusedRecord, readingRecord}
+use Rattle.reader.proofs.Descent.{putTask, linesThen, frameThen, tasksOn, wholeText}
+
+-- ---- after the end's line
+
+into-some : (ts : Meant.Table) (n b : ℕ) (ls : List Line) → atEnd ts n (intoFirst b ls) ≡ unreadable 7 n
+into-some ts n b [] = refl
+into-some ts n b (l ∷ ls) = refl
+
+more-left : (ts : Meant.Table) (n : ℕ) (u : List ℕ) → 0 < length u → atEnd ts n (linesOf u) ≡ unreadable 7 n
+more-left ts n [] h = absurd (omega arith)
+more-left ts n (b ∷ u) h = go (eqb b lineFeed) refl
+  where
+    go : (x : Bool) → eqb b lineFeed ≡ x → atEnd ts n (linesOf (b ∷ u)) ≡ unreadable 7 n
+    go true e = simp e
+    go false e = simp e (into-some ts n b (linesOf u))
+
+end-run : (ts : Meant.Table) (line : ℕ) (t : List ℕ) → endDigits < length t → frameThen EndTaken (tableRecord ts) line (length t) (λ v e. refusedRecord WrongFrame line) ≡ readingRecord (atEnd ts (suc line) (linesOf (drop endBytes t)))
+end-run ts line t h = go (eqb (length t) endBytes) refl
+  where
+    go : (x : Bool) → eqb (length t) endBytes ≡ x → frameThen EndTaken (tableRecord ts) line (length t) (λ v e. refusedRecord WrongFrame line) ≡ readingRecord (atEnd ts (suc line) (linesOf (drop endBytes t)))
+    go true e =
+        let k : length t ≤ endBytes = omega (arith, eqb-true (length t) endBytes e) in
+        let d : drop endBytes t ≡ [] = drop-of-length-le t k in
+        simp (e, d)
+    go false e =
+        let k : length t ≡ endBytes → ⊥ = eqb-false (length t) endBytes e in
+        let d : 0 < length (drop endBytes t) = omega (arith, length-drop endBytes t) in
+        simp (e, more-left ts (suc line) (drop endBytes t) d, add-one)
+
+-- ---- the tasks
+
+-- the tasks ts, and another with the vertices X and the edges E, are read
+abbrev state : List Meant.Task → List Meant.Vertex → List Meant.Edge → Begun
+state ts X E = record { tasks = ts; vertices = X; edges = E; wantV = 0; wantE = 0 }
+
+closed-some : (ts : List Meant.Task) (X : List Meant.Vertex) (E : List Meant.Edge) → 0 < length X → closed (state ts X E) ≡ ts ++ (record { vertices = X; edges = E } ∷ [])
+closed-some ts [] E h = absurd (omega arith)
+closed-some ts (x ∷ X) E h = refl
+
+-- the text from a task's line on is read as it means
+abbrev Going : ℕ → Type 0
+Going g = (ts : List Meant.Task) (X : List Meant.Vertex) (E : List Meant.Edge) (line : ℕ) (t : List ℕ) → length (closed (state ts X E)) + g ≡ mostTasks → tasksOn g (tableRecord (closed (state ts X E))) line t ≡ readingRecord (readFrom (state ts X E) line (linesOf t))
+
+module _ (g : ℕ) (ih : Going g) (ts : List Meant.Task) (line v e : ℕ) (t : List ℕ) (count : length ts + suc g ≡ mostTasks) (m : TaskBounds v e) where
+  abbrev behind : List ℕ
+  behind = drop ((v + e) * partBytes) (drop taskBytes t)
+
+  with-task : (R : Text.Reading) (a : TaskLines) → TaskGives R ts (suc line) v e behind a → linesThen (a .outcome) (line + 1 + a .count) (tasksOn g (putTask (tableRecord ts) (a .task)) (line + 1 + v + e) (drop (taskBytes + (v + e) * partBytes) t)) ≡ readingRecord R
+  with-task R a (no-task w i q) =
+      let o : suc line + i ≡ line + 1 + i = omega arith in
+      simp (q, refusal-of-number, o)
+  with-task R a (whole-task k lv q) =
+      let c : closed (state ts (k .vertices) (k .edges)) ≡ ts ++ (k ∷ []) = closed-some ts (k .vertices) (k .edges) (omega (arith, m .some)) in
+      let ln : length (ts ++ (k ∷ [])) ≡ length ts + 1 = length-snoc ts k in
+      let p : set (padded mostTasks noTask (map taskRecord ts)) (length ts) (taskRecord k) ≡ padded mostTasks noTask (map taskRecord (ts ++ (k ∷ []))) = padded-set mostTasks noTask taskRecord ts k (omega arith) in
+      let o : line + 1 + v + e ≡ suc line + v + e = omega arith in
+      let d : drop (taskBytes + (v + e) * partBytes) t ≡ behind = sym (drop-drop ((v + e) * partBytes) taskBytes t) in
+      let s : length (closed (state ts (k .vertices) (k .edges))) + g ≡ mostTasks = omega (arith, ap length c) in
+      let f : putTask (tableRecord ts) (taskRecord k) ≡ tableRecord (ts ++ (k ∷ [])) = simp (ln, p) in
+      let u : putTask (tableRecord ts) (taskRecord k) ≡ tableRecord (closed (state ts (k .vertices) (k .edges))) = f ∙ ap tableRecord (sym c) in
+      simp (u, o, d) (ih ts (k .vertices) (k .edges) (suc line + v + e) behind s ∙ ap readingRecord (sym q))
+
+module _ (ts : List Meant.Task) (X : List Meant.Vertex) (E : List Meant.Edge) (line : ℕ) (t : List ℕ) where
+  abbrev have : List Meant.Task
+  have = closed (state ts X E)
+
+  abbrev task : ℕ → ℕ → Text.Reading
+  task v e = readFrom (record { tasks = have; vertices = []; edges = []; wantV = v; wantE = e }) (suc line) (linesOf (drop taskBytes t))
+
+  frame-run : (K : ℕ → ℕ → Reading) → ((v e : ℕ) → taskOrEndLine (length have) t ≡ TaskTaken v e → K v e ≡ readingRecord (task v e)) → frameThen (taskOrEndLine (length have) t) (tableRecord have) line (length t) K ≡ readingRecord (readFrom (state ts X E) line (linesOf t))
+  frame-run K h = go (taskOrEndLine (length have) t) refl ∙ ap readingRecord (sym (task-or-end-read ts X E line t))
+    where
+      go : (x : TaskOrEndLine) → taskOrEndLine (length have) t ≡ x → frameThen (taskOrEndLine (length have) t) (tableRecord have) line (length t) K ≡ readingRecord (frameGives (taskOrEndLine (length have) t) line task (atEnd have (suc line) (linesOf (drop endBytes t))))
+      go (FrameRefused w) q = simp (q, refusal-of-number)
+      go EndTaken q = simp q (end-run have line t (end-long (length have) t q))
+      go (TaskTaken v e) q = simp q (h v e q)
+
+tasks-run : (g : ℕ) → Going g
+unfolding tasksOn
+tasks-run zero ts X E line t s = frame-run ts X E line t (λ v e. refusedRecord WrongFrame line) (λ v e q. absurd (omega (arith, task-has (length (closed (state ts X E))) v e t q .fits)))
+tasks-run (suc g) ts X E line t s =
+    frame-run ts X E line t _
+    (λ v e q.
+    let m : TaskBounds v e = task-has (length (closed (state ts X E))) v e t q .bounds in
+    with-task g (λ a b c d f h. tasks-run g a b c d f h) (closed (state ts X E)) line v e t s m (task ts X E line t v e) (taskLines v e (drop taskBytes t)) (task-run (closed (state ts X E)) (suc line) v e (drop taskBytes t) (m .v-in) (m .e-in)))
+
+no-tasks : tableRecord [] ≡ noTable
+unfolding padded
+no-tasks = refl
+
+pub whole : (text : List ℕ) → wholeText text ≡ readingRecord (read text)
+unfolding read
+whole text = rw (← no-tasks) (tasks-run mostTasks [] [] [] 1 text (omega arith))

@@ -1,0 +1,50 @@
+use Rattle.reader.proofs.Check.{check-readable, check-refused}
+use Rattle.reader.proofs.Result.{LineRefused, table-read, line-refused}
+use native.Mathlib.Omega.{arith}
+use borrow.Author.Needs.{needs}
+use Rattle.reader.proofs.text_check.Statement.{statement}
+use Rattle.reader.proofs.text_check.Tie as tie
+
+refusal : (c : tie.After-known-told) → LineRefused (c .before .before .before .before .before .args .text .now) (c .before .status .given .0 .0)
+refusal c = line-refused (c .before .before .before .before .before .args .text .now) (c .before .before .before .read .result) (c .before .before .before .read .ensures) (c .before .status .given .1)
+
+read-requires : tie.Need-read-requires
+read-requires c κs = search needs
+
+enum-known-status : tie.Need-enum-known-status
+enum-known-status c = search needs
+
+enum-told : tie.Need-enum-told
+enum-told c = search needs
+
+returns : tie.Need-returns
+returns c = check-readable (table-read (c .before .before .before .before .args .text .now) (c .before .before .read .result) (c .before .before .read .ensures) (c .enum-told .given .1))
+
+refusal-number-requires : tie.Need-refusal-number-requires
+refusal-number-requires c κs = search needs
+
+cast-result : tie.Need-cast-result
+cast-result c = search needs
+
+mul-result : tie.Need-mul-result
+mul-result c = omega (arith, refusal (c .before) .bounds .high)
+
+add-result : tie.Need-add-result
+add-result c = omega (arith, refusal (c .before .before) .bounds .high, refusal (c .before .before) .bounds .last)
+
+returns-2 : tie.Need-returns-2
+returns-2 c = check-refused (refusal (c .before .before)) (c .before .refusal-number .result) (c .before .refusal-number .ensures)
+
+pub text-check-spec : {M : Type 1} → statement M
+text-check-spec =
+    tie.close
+    (tie.spec
+    read-requires
+    enum-known-status
+    enum-told
+    returns
+    refusal-number-requires
+    cast-result
+    mul-result
+    add-result
+    returns-2)

@@ -1,0 +1,94 @@
+// "Lines are read from the first, and the first faulty line decides; within a line the order is 1 to 5. A last stretch without a line feed is
+// a line. After the end frame's line nothing is read: any byte there is 7, whatever it is."
+//
+// The reader goes down by task: a line is tested for just the frame that must stand there, and looked through for its refusal only where
+// that fails. Each line that is taken has as many bytes as its frame, so that places in the text and line numbers are sums.
+use kinds::Refusal;
+use kinds::RefusedAt;
+use lines::Outcome;
+use lines::TaskOrEndLine;
+use table::Table;
+ghost use mathlib.Core.Path.{_≡_};
+ghost use Prim.Native.Nat.{_≤_};
+ghost use Rattle.meaning.specs.Text.{read, packed};
+ghost use Rattle.meaning.specs.Demands.{lastLine};
+ghost use Rattle.reader.specs.Record.{refusedRecord, readingRecord};
+
+mod parts; // parts.rt: the lines of a task
+
+pub enum Status {
+    Readable,
+    Refused(RefusedAt),
+}
+
+// The table of a readable text, the empty table of a refused one.
+pub struct Reading {
+    pub status: Status,
+    pub table: Table,
+}
+
+pub(crate) fn refused(refusal: Refusal, line: usize) -> Reading
+    requires { ⌜ line ≤ lastLine ⌝ }
+    ensures { λ r. ⌜ r ≡ refusedRecord refusal line ⌝ }
+{
+    let table = table::no_table();
+    Reading {
+        status: Status::Refused(RefusedAt {
+            refusal,
+            place: line as u32,
+        }),
+        table,
+    }
+}
+
+pub fn read(text: &[u8]) -> Reading
+    ensures { λ r. ⌜ r ≡ readingRecord (read (now (text .entry))) ⌝ }
+{
+    let worths = frames::digits::worths();
+    let mut table = table::no_table();
+    let mut at = 0;
+    let mut line = 1;
+    loop {
+        let k = table.n;
+        let next = frames::task_or_end_line(&worths, &text[at..], k);
+        match next {
+            TaskOrEndLine::FrameRefused(refusal) => return refused(refusal, line),
+            TaskOrEndLine::EndTaken => {
+                if text.len() - at != 3 {
+                    return refused(Refusal::BytesAfterEnd, line + 1);
+                }
+                return Reading {
+                    status: Status::Readable,
+                    table,
+                };
+            }
+            TaskOrEndLine::TaskTaken(v, e) => {
+                let lines = parts::read_task(&worths, text, at + 7, v, e);
+                let outcome = lines.outcome;
+                if let Outcome::StoppedBy(refusal) = outcome {
+                    return refused(refusal, line + 1 + lines.count);
+                }
+                let task = lines.task;
+                table.tasks[k] = task;
+                table.n = k + 1;
+                line = line + 1 + v + e;
+                at = at + 7 + (v + e) * 11;
+            }
+        }
+    }
+}
+
+// "The customer desk's C host calls the text check directly, with the bytes and a length, and gets refusal number and line, both 0 for a
+// readable text": number x 65,536 + line.
+#[no_mangle]
+pub extern "C" fn text_check(text: &[u8]) -> u32
+    ensures { λ r. ⌜ r ≡ packed (read (now (text .entry))) ⌝ }
+{
+    let r = read(text);
+    let status = r.status;
+    let Status::Refused(at) = status else {
+        return 0;
+    };
+    let refusal = at.refusal;
+    kinds::refusal_number(refusal) as u32 * 65536 + at.place
+}
