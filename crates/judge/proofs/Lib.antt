@@ -8,3 +8,4 @@ pub mod Joining
 pub mod Walking
 pub mod Sheet
 pub mod OneVertex
+pub mod Answers

@@ -6,3 +6,30 @@ mod areas;
 mod stretches;
 mod vertex;
 mod witness;
+use crate::vertex::judge_vertex;
+use kinds::TaskNumber;
+use kinds::Verdict;
+use kinds::VertexNumber;
+use reader::Status;
+use reader::read;
+ghost use Rattle.judge.specs.Judged.{Judged};
+
+// One vertex of the text's table. After meets, misses and unfinished the needed work cells are zero; a miss's paths are in the witness area.
+pub fn judge(
+    text: &[u8],
+    task: TaskNumber,
+    vertex: VertexNumber,
+    budget: u32,
+    work: &mut [u32],
+    witness: &mut [u16],
+) -> Verdict
+    ensures { λ r. ⌜ Judged (now (text .entry)) (task .0) (vertex .0) budget (now (work .entry)) (now (witness .entry)) r (now (work .exit)) (now (witness .exit)) ⌝ }
+{
+    let reading = read(text);
+    let status = reading.status;
+    let Status::Refused(at) = status else {
+        let table = reading.table;
+        return judge_vertex(table, task, vertex, budget, work, witness);
+    };
+    Verdict::Refused(at)
+}
