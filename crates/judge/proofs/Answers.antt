@@ -1,17 +1,16 @@
 -- The answer to a text: refused at its line, or that of its table. Assumes nothing.
-use mathlib.Core.Path.{_≡_, refl, sym, ap, subst, _∙_}
+use mathlib.Core.Path.{refl, sym, subst}
 use Prim.Native.Nat.{ℕ}
 use mathlib.Core.List.{List}
 use lib.ListN.{length}
 use Rattle.meaning.specs.Table as Meant
-use Rattle.meaning.specs.Text.{Reading, readable, unreadable, read}
+use Rattle.meaning.specs.Text.{Reading}
 use Rattle.meaning.specs.Verdict as Said
 use Rattle.meaning.specs.Areas.{workNeed}
-use Rattle.meaning.specs.Judge.{judged, onReading, answer, needOf}
+use Rattle.meaning.specs.Judge.{judged, onReading, needOf}
 use Rattle.kinds.specs.declared.RefusedAt.{RefusedAt}
 use Rattle.kinds.specs.declared.Verdict.{Verdict}
 use Rattle.kinds.specs.declared.Verdict.the-variants.{Refused}
-use Rattle.kinds.specs.Numbers.{refusalNumber}
 use Rattle.table.specs.declared.Table.{Table}
 use Rattle.table.specs.Record.{tableOf}
 use Rattle.reader.proofs.Result.{TableRead, LineRefused}

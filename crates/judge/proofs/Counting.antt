@@ -1,15 +1,14 @@
 -- Counting the higher tasks' paths: the first with too many, the stretches' starts, the rows in all. Assumes nothing.
 use mathlib.Core.Path.{_≡_, refl, sym, ap, subst, _∙_}
-use Prim.Native.Nat.{ℕ, zero, suc, _+_, _-_, _*_, _≤_, _<_, min}
+use Prim.Native.Nat.{ℕ, _+_, _-_, _*_, _≤_, _<_, min}
 use native.Mathlib.Omega.{arith}
 use native.Mathlib.Nat.{eq-or-lt-of-le, mul-le-mul}
 use native.Mathlib.Numerals.{add-one}
 use native.Mathlib.Decide.{ℕ-discrete}
 use mathlib.Core.Logic.{⊎-elim}
-use mathlib.Core.List.{List, [], _∷_, _++_, map}
+use mathlib.Core.List.{List, [], _∷_, _++_}
 use lib.ListN.{length, take, getD, set, length-set, length-map}
 use lib.Seq.{take-suc, getD-set-same, getD-set-other, getD-take, length-take-le}
-use Rattle.meaning.specs.Lists.{sum}
 use Rattle.meaning.specs.Bounds.{mostPaths, largestD}
 use Rattle.meaning.specs.Table as Meant
 use Rattle.meaning.specs.Table.{noTask, taskAt, higher}
@@ -20,8 +19,7 @@ use Rattle.table.specs.declared.Task.{Task}
 use Rattle.table.specs.declared.Table.{Table}
 use Rattle.table.specs.Record.{taskOf, tableOf}
 use Rattle.table.specs.Record as Blank
-use Rattle.judge.specs.declared.above.Above.{Above}
-use Rattle.judge.specs.Above.{Held, pathCounts, rowsIn, Counting, Counted}
+use Rattle.judge.specs.Above.{Held, pathCounts, rowsIn, Counting}
 use Rattle.judge.proofs.Records.{held-count, held-is, held-sound}
 
 rows-snoc : (ns : List ℕ) (n : ℕ) → rowsIn (ns ++ n ∷ []) ≡ rowsIn ns + (2 * n - 1)

@@ -1,16 +1,15 @@
 -- The stretches of the higher tasks, filled one after the other. Assumes nothing.
-use mathlib.Core.Path.{_≡_, refl, sym, ap, ap₂, subst, _∙_}
+use mathlib.Core.Path.{_≡_, refl, sym, ap, ap₂, _∙_}
 use Prim.Native.Nat.{ℕ, zero, suc, _+_, _-_, _*_, _≤_, _<_}
 use native.Mathlib.Omega.{arith}
 use native.Mathlib.Nat.{le-trans, le-of-eq, mul-le-mul-right, add-mul, zero-mul}
 use native.Mathlib.Numerals.{add-one}
-use mathlib.Core.List.{List, [], _∷_, _++_, map, append-assoc, append-nil, List·Memᴰ, List·Memᴰ·head, List·Memᴰ·tail}
-use lib.ListN.{length, take, drop, getD, length-append, length-drop, length-take}
+use mathlib.Core.List.{List, [], _∷_, _++_, map, append-assoc, append-nil, List·Memᴰ·head, List·Memᴰ·tail}
+use lib.ListN.{length, take, drop, getD, length-append, length-drop}
 use lib.Seq.{getD-take, take-suc, take-at, drop-at, drop-drop, take-all, length-take-le}
-use Rattle.meaning.specs.Lists.{gather, sum}
 use Rattle.meaning.specs.Bounds.{mostPaths, largestD}
 use Rattle.meaning.specs.Table as Meant
-use Rattle.meaning.specs.Table.{noTask, taskAt, higher}
+use Rattle.meaning.specs.Table.{noTask, higher}
 use Rattle.meaning.specs.Paths.{pathsOf}
 use Rattle.meaning.specs.Areas.{written, rowsOf}
 use Rattle.meaning.proofs.Lists.{gather-append, mem-take}
@@ -23,9 +22,9 @@ use Rattle.table.specs.declared.Task.{Task}
 use Rattle.table.specs.declared.Table.{Table}
 use Rattle.table.specs.Record.{tableOf, taskOf}
 use Rattle.judge.specs.declared.above.Above.{Above}
-use Rattle.judge.specs.Above.{Held, pathCounts, rowsIn, Counting, Counted}
+use Rattle.judge.specs.Above.{Held, pathCounts, rowsIn, Counted}
 use Rattle.judge.specs.Stretches.{stretches}
-use Rattle.judge.proofs.Records.{held-count, held-few, held-is, held-sound, held-ready}
+use Rattle.judge.proofs.Records.{held-count, held-is, held-ready}
 use Rattle.judge.proofs.Counting.{rows-fit, rows-more, counts-length, count-at, count-some}
 
 -- ---- a front that grows by a part of the area

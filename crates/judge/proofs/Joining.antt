@@ -1,19 +1,19 @@
 -- The filled stretches hold the loads of every range, so the walk over them says C and the witness. Assumes nothing.
-use mathlib.Core.Path.{_≡_, refl, sym, ap, ap₂, subst, _∙_}
+use mathlib.Core.Path.{_≡_, sym, ap, subst, _∙_}
 use Prim.Native.Nat.{ℕ, zero, suc, _+_, _-_, _*_, _≤_, _<_}
 use native.Mathlib.Omega.{arith}
 use native.Mathlib.Nat.{le-trans, mul-le-mul-right, suc-mul}
-use mathlib.Core.List.{List, [], _∷_, _++_, map}
+use mathlib.Core.List.{List, [], _∷_, _++_}
 use lib.ListN.{length, take, drop, getD, length-append, length-map, List·getD-append}
 use lib.Seq.{getD-append-add, getD-take, length-take-le, ext-getD}
 use Rattle.meaning.specs.Lists.{gather}
-use Rattle.meaning.specs.Bounds.{mostPaths, largestD, largestE}
+use Rattle.meaning.specs.Bounds.{largestE}
 use Rattle.meaning.specs.Table as Meant
-use Rattle.meaning.specs.Table.{noTask, taskAt, higher}
-use Rattle.meaning.specs.Paths.{Path, pathsOf}
+use Rattle.meaning.specs.Table.{noTask, higher}
+use Rattle.meaning.specs.Paths.{pathsOf}
 use Rattle.meaning.specs.Groups.{rangeLoad}
 use Rattle.meaning.specs.Verdict.{Listed, loadOf, listed, topOf}
-use Rattle.meaning.specs.Sound.{SoundTask, AllSound}
+use Rattle.meaning.specs.Sound.{SoundTask}
 use Rattle.meaning.proofs.Lists.{getD-mapped, mem-take}
 use Rattle.meaning.proofs.PathsOf.{paths-some}
 use Rattle.rows.specs.Order.{Node, topRow}
@@ -21,17 +21,16 @@ use Rattle.rows.proofs.Order.{node-in, node-pos, top-in}
 use Rattle.ranges.specs.Stretch.{stretchOf}
 use Rattle.ranges.proofs.CellBounds.{stretch-length, cell-bound}
 use Rattle.ranges.proofs.Nodes.{listed-cell}
-use Rattle.walk.specs.Ranges.{Range, range}
+use Rattle.walk.specs.Ranges.{range}
 use Rattle.walk.specs.Rows.{rowStart}
-use Rattle.walk.specs.Lent.{light, Stretches, Walkable}
-use Rattle.walk.specs.Told.{sizes, partOf, RowsHold}
+use Rattle.walk.specs.Lent.{Walkable}
+use Rattle.walk.specs.Told.{sizes, RowsHold}
 use Rattle.table.specs.declared.Table.{Table}
 use Rattle.table.specs.Record.{tableOf}
 use Rattle.judge.specs.declared.above.Above.{Above}
-use Rattle.judge.specs.Above.{Held, pathCounts, rowsIn, Counted}
+use Rattle.judge.specs.Above.{Held, pathCounts, Counted}
 use Rattle.judge.specs.Stretches.{stretches}
 use Rattle.judge.proofs.Records.{held-count, held-sound}
-use Rattle.judge.proofs.Counting.{counts-length, count-some}
 use Rattle.judge.proofs.Filling.{at, rows-all, sofar-length, stretches-size}
 
 -- a cell of the j-th of lists that stand one after the other
@@ -79,7 +78,7 @@ module _ (t : Table) (k : Held t) (h d : ℕ) (l : h < t .n) (a : Above) (c : Co
       let row = 2 * f + topRow m in
       let one : suc row ≤ 2 * getD (a .counts) j 0 - 1 = omega (arith, node-in x, top-in m (node-pos x (p .some))) in
       let long : length (stretchOf (getD ks j noTask) d) ≡ (2 * getD (a .counts) j 0 - 1) * d = (
-        stretch-length (getD ks j noTask) d (paths-some (getD ks j noTask) (sound-at j q) d) ∙ ap (λ (n : ℕ). (2 * n - 1) * d) (sym (paths-at j q))
+      stretch-length (getD ks j noTask) d (paths-some (getD ks j noTask) (sound-at j q) d) ∙ ap (λ (n : ℕ). (2 * n - 1) * d) (sym (paths-at j q))
       ) in
       let fits : row * d + u < length (stretchOf (getD ks j noTask) d) = omega (arith, long, mul-le-mul-right d one, suc-mul row d) in
       let place : getD (a .roots) j 0 + row * d + u ≡ length (stretches (take j ks) d) + (row * d + u) = omega (arith, p .from, sofar-length t k h d l a c full j) in

@@ -2,15 +2,15 @@
 use mathlib.Core.Path.{_≡_, refl, sym, ap, ap₂, subst, _∙_}
 use Prim.Native.Nat.{ℕ, _+_, _*_, _≤_, _<_}
 use native.Mathlib.Omega.{arith}
-use native.Mathlib.Nat.{mul-le-mul, le-trans}
+use native.Mathlib.Nat.{mul-le-mul}
 use mathlib.Core.List.{List, [], map}
 use lib.ListN.{length, getD, length-map}
-use Rattle.meaning.specs.Bounds.{mostVertices, mostPaths, largestD, largestE}
+use Rattle.meaning.specs.Bounds.{mostVertices, largestD, largestE}
 use Rattle.meaning.specs.Table as Meant
 use Rattle.meaning.specs.Table.{noVertex, taskAt, vertexAt, higher}
 use Rattle.meaning.specs.Verdict as Said
 use Rattle.meaning.specs.Verdict.{walked, ownE, deadline}
-use Rattle.meaning.specs.Areas.{workNeed, witnessNeed, workAfter, witnessAfter}
+use Rattle.meaning.specs.Areas.{workNeed, witnessNeed}
 use Rattle.meaning.specs.Judge.{judged}
 use Rattle.meaning.specs.Sound.{SoundVertex}
 use Rattle.meaning.proofs.Lists.{mem-getD, getD-mapped}
@@ -22,13 +22,13 @@ use Rattle.kinds.specs.Numbers.{refusalNumber}
 use Rattle.table.specs.declared.Vertex.{Vertex}
 use Rattle.table.specs.declared.Task.{Task}
 use Rattle.table.specs.declared.Table.{Table}
-use Rattle.table.specs.Record.{vertexRecord, taskRecord, tableOf}
+use Rattle.table.specs.Record.{vertexRecord, tableOf}
 use Rattle.table.specs.Record as Blank
 use Rattle.table.proofs.Record.{getD-padded, length-padded}
 use Rattle.judge.specs.declared.above.Above.{Above}
 use Rattle.judge.specs.Above.{Held, pathCounts, Counted}
 use Rattle.judge.specs.Judged.{Answered}
-use Rattle.judge.proofs.Records.{held-count, held-few, held-task, held-sound}
+use Rattle.judge.proofs.Records.{held-count, held-task, held-sound}
 use Rattle.judge.proofs.Counting.{rows-fit}
 use Rattle.judge.proofs.Filling.{rows-all}
 use Rattle.judge.proofs.Sheet.{none-crowded, first-crowded, need-rows, no-task, no-vertex, at-9, at-10, at-11, at-walk}
@@ -151,7 +151,7 @@ module _ (t : Table) (k : Held t) (i v b : ℕ) (work wit : List ℕ) where
                 (r : Kinds.Verdict) (work′ wit′ : List ℕ) → i * (1 + d) ≤ length wit → Answered (walked b (higher (tableOf t) i) e d) (a .rows * d) work wit r work′ wit′ → Answered J need work wit r work′ wit′)
             answer-walk r work′ wit′ h x =
                 let same : walked b (higher (tableOf t) i) (ownVertex t i v .e .0) d ≡ J = (
-                  ap₂ (walked b (higher (tableOf t) i)) (job-e t k i l v m) (job-d t k i l v m)
-                  ∙ sym (at-walk (tableOf t) i v b (length work) (length wit) there few (omega (arith, need-is)) (omega (arith, cells-are)))
+                ap₂ (walked b (higher (tableOf t) i)) (job-e t k i l v m) (job-d t k i l v m)
+                ∙ sym (at-walk (tableOf t) i v b (length work) (length wit) there few (omega (arith, need-is)) (omega (arith, cells-are)))
                 ) in
                 subst (λ (n : ℕ). Answered J n work wit r work′ wit′) need-is (subst (λ q. Answered q (a .rows * d) work wit r work′ wit′) same x)

@@ -1,10 +1,10 @@
 -- Cells placed one after the other: a path's, and those of the paths of a miss. Assumes nothing.
-use mathlib.Core.Path.{_≡_, refl, sym, ap, ap₂, subst, _∙_}
-use Prim.Native.Nat.{ℕ, zero, suc, _+_, _*_, _≤_, _<_}
+use mathlib.Core.Path.{_≡_, refl, sym, ap, ap₂, _∙_}
+use Prim.Native.Nat.{ℕ, _+_, _≤_, _<_}
 use native.Mathlib.Omega.{arith}
 use native.Mathlib.Numerals.{add-one}
 use mathlib.Core.List.{List, [], _∷_, _++_, map}
-use lib.ListN.{length, take, drop, getD, set, length-map, length-append}
+use lib.ListN.{length, take, getD, set, length-map}
 use lib.Seq.{sets, length-sets, take-suc, take-all, length-take-le, getD-take}
 use Rattle.meaning.proofs.Lists.{getD-mapped}
 use Rattle.kinds.specs.declared.VertexNumber.{VertexNumber}

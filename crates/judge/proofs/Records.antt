@@ -1,18 +1,17 @@
 -- The record of a readable table: what stands in its cells. Assumes nothing.
-use mathlib.Core.Path.{_≡_, refl, sym, ap, subst, _∙_}
-use Prim.Native.Nat.{ℕ, _-_, _≤_, _<_}
+use mathlib.Core.Path.{_≡_, sym, ap, subst, _∙_}
+use Prim.Native.Nat.{ℕ, _≤_, _<_}
 use native.Mathlib.Omega.{arith}
-use mathlib.Core.List.{List, map}
-use lib.ListN.{length, getD, length-map, List·getD-map}
-use Rattle.meaning.specs.Bounds.{mostTasks, mostVertices}
+use mathlib.Core.List.{map}
+use lib.ListN.{length, getD, length-map}
+use Rattle.meaning.specs.Bounds.{mostTasks}
 use Rattle.meaning.specs.Table as Meant
-use Rattle.meaning.specs.Table.{noTask, taskAt, noVertex, vertexAt}
+use Rattle.meaning.specs.Table.{noTask, taskAt}
 use Rattle.meaning.specs.Sound.{SoundTask, SoundTable}
 use Rattle.meaning.proofs.Lists.{mem-getD, getD-mapped}
-use Rattle.table.specs.declared.Vertex.{Vertex}
 use Rattle.table.specs.declared.Task.{Task}
 use Rattle.table.specs.declared.Table.{Table}
-use Rattle.table.specs.Record.{padded, vertexRecord, taskRecord, tableRecord, vertexOf, tableOf, taskOf}
+use Rattle.table.specs.Record.{taskRecord, tableRecord, tableOf, taskOf}
 use Rattle.table.specs.Record as Blank
 use Rattle.table.proofs.Record.{getD-padded, length-padded, table-of-record, task-of-record}
 use Rattle.lister.specs.Columns.{Ready}

@@ -1,24 +1,22 @@
 -- The refusal sheet's rows 8 to 11, from what the code tests, in order. Assumes nothing.
-use mathlib.Core.Path.{_≡_, refl, sym, ap, ap₂, subst, _∙_}
+use mathlib.Core.Path.{_≡_, refl, sym, ap, subst, _∙_}
 use Prim.Native.Nat.{ℕ, zero, suc, _+_, _-_, _*_, _≤_, _<_}
 use native.Mathlib.Omega.{arith}
 use native.Mathlib.Nat.{mul-comm}
-use native.Mathlib.Decide.{decLt}
-use mathlib.Core.Bool.{Bool, true, false, not, _&&_}
-use mathlib.Core.Option.{some, none}
+use mathlib.Core.Bool.{Bool, true, false, not}
 use mathlib.Core.List.{List, [], _∷_, map}
 use lib.ListN.{length, getD, take}
 use lib.Seq.{getD-take, length-take-le}
 use lib.Dec.{ltb}
 use borrow.Author.Tests.{lt-ltb, le-ltb}
-use Rattle.meaning.specs.Lists.{sum, those, countFrom, below}
-use Rattle.meaning.specs.Bounds.{mostPaths, largestD, largestE}
+use Rattle.meaning.specs.Lists.{sum, those, countFrom}
+use Rattle.meaning.specs.Bounds.{mostPaths}
 use Rattle.meaning.specs.Table as Meant
-use Rattle.meaning.specs.Table.{noTask, noVertex, taskAt, vertexAt, higher}
+use Rattle.meaning.specs.Table.{noTask, taskAt, higher}
 use Rattle.meaning.specs.Paths.{pathsOf}
-use Rattle.meaning.specs.Verdict.{Verdict, refused, walked, walkedAt, ownE, deadline}
+use Rattle.meaning.specs.Verdict.{Verdict, refused, walkedAt, deadline}
 use Rattle.meaning.specs.Areas.{rowsOf, workNeed, witnessNeed}
-use Rattle.meaning.specs.Judge.{Row, crowded, row8, row9, row10, row11, firstRow, refusal, unlessRefused, judged}
+use Rattle.meaning.specs.Judge.{Row, crowded, row8, row9, row10, row11, firstRow, unlessRefused, judged}
 use Rattle.meaning.proofs.Lists.{getD-mapped, and-false}
 use Rattle.meaning.proofs.Refusals.{row-none, row-some}
 use Rattle.judge.specs.Above.{rowsIn, pathCounts}

@@ -1,20 +1,20 @@
 -- From the walk over the filled stretches to the verdict and both areas. Assumes nothing.
 use mathlib.Core.Path.{_≡_, refl, sym, ap, ap₂, subst, _∙_}
-use Prim.Native.Nat.{ℕ, zero, suc, _+_, _*_, _≤_, _<_}
+use Prim.Native.Nat.{ℕ, suc, _+_, _*_, _≤_, _<_}
 use native.Mathlib.Omega.{arith}
 use native.Mathlib.Nat.{le-trans, mul-le-mul}
-use mathlib.Core.List.{List, [], _∷_, _++_, map}
+use mathlib.Core.List.{List, [], _∷_, _++_}
 use mathlib.Core.Option.{Option, none, some}
 use lib.ListN.{length, take, drop, getD, replicate, length-map}
 use lib.Seq.{sets, sets-eq, take-at, drop-at, drop-cons}
 use borrow.Author.Tests.{lt-ltb, le-ltb}
-use Rattle.meaning.specs.Bounds.{largestE, largestD, mostPaths, deskWitness}
+use Rattle.meaning.specs.Bounds.{largestE, largestD, deskWitness}
 use Rattle.meaning.specs.Table as Meant
-use Rattle.meaning.specs.Table.{noTask, higher}
+use Rattle.meaning.specs.Table.{higher}
 use Rattle.meaning.specs.Paths.{Path, pathsOf}
 use Rattle.meaning.specs.Groups.{count, witness}
-use Rattle.meaning.specs.Verdict.{meets, misses, unfinished, Listed, loadOf, listed, topOf, pathsIn, cellsOf, decided, walked, numbers}
-use Rattle.meaning.specs.Areas.{written, zeroed, workAfter, witnessAfter}
+use Rattle.meaning.specs.Verdict.{meets, misses, unfinished, Listed, loadOf, listed, topOf, pathsIn, cellsOf, decided, walked}
+use Rattle.meaning.specs.Areas.{written, zeroed}
 use Rattle.meaning.proofs.Lists.{getD-mapped}
 use Rattle.kinds.specs.declared.Verdict.the-variants as Kinds
 use Rattle.table.specs.declared.Table.{Table}

@@ -1,14 +1,13 @@
 -- The paths of a miss at their places, one task after the other. Assumes nothing.
-use mathlib.Core.Path.{_≡_, refl, sym, ap, ap₂, subst, _∙_}
-use Prim.Native.Nat.{ℕ, zero, suc, _+_, _-_, _*_, _≤_, _<_, zero-le}
+use mathlib.Core.Path.{_≡_, refl, sym, ap, subst, _∙_}
+use Prim.Native.Nat.{ℕ, zero, suc, _+_, _*_, _≤_, _<_, zero-le}
 use native.Mathlib.Omega.{arith}
 use native.Mathlib.Nat.{le-trans, mul-le-mul-right, suc-mul}
 use native.Mathlib.Numerals.{add-one}
 use native.Mathlib.Decide.{decLt}
 use mathlib.Core.List.{List, [], _∷_, _++_, map, append-nil}
-use lib.ListN.{length, take, drop, getD, length-map, List·getD-eq-default}
+use lib.ListN.{length, take, getD, length-map, List·getD-eq-default}
 use lib.Seq.{take-suc, take-all, getD-take, length-take-le}
-use Rattle.meaning.specs.Lists.{gather}
 use Rattle.meaning.specs.Bounds.{largestD}
 use Rattle.meaning.specs.Table as Meant
 use Rattle.meaning.specs.Table.{noTask, taskAt, higher}
@@ -73,7 +72,7 @@ place-short k s d o p =
 
 -- ---- after the paths of the first j tasks
 
-pub record Writing (ks : List Meant.Task) (h d : ℕ) (ps before now : List ℕ) (at j : ℕ) : Type 0 where
+pub record WrittenSoFar (ks : List Meant.Task) (h d : ℕ) (ps before now : List ℕ) (at j : ℕ) : Type 0 where
   pub low : j ≤ h
   pub seven : h ≤ 7
   pub short : at ≤ j * (1 + d)
@@ -90,8 +89,8 @@ module _ (t : Table) (k : Held t) (h d : ℕ) (l : h < t .n) (o : 0 < d) (u : d 
   many : length ks ≡ h
   many = length-take-le h (tableOf t) (omega (arith, held-count t k))
 
-  pub writing-none : Writing ks h d ps before before 0 0
-  writing-none = record { low = omega arith; seven = few; short = omega arith; same = refl; wrote = wrote-none before 0 }
+  pub written-none : WrittenSoFar ks h d ps before before 0 0
+  written-none = record { low = omega arith; seven = few; short = omega arith; same = refl; wrote = wrote-none before 0 }
 
   -- the path at its place in task j's list
   pathOf : Task → ℕ → Path
@@ -112,7 +111,7 @@ module _ (t : Table) (k : Held t) (h d : ℕ) (l : h < t .n) (o : 0 < d) (u : d 
   row-fits : (j : ℕ) → j < h → suc j * (1 + d) ≤ length before
   row-fits j m = le-trans (mul-le-mul-right (1 + d) m) room
 
-  module _ (z : Task) {now : List ℕ} {at j : ℕ} (w : Writing ks h d ps before now at j) (m : j < h) (r : Lister.Path) (e : r ≡ pathRecord (getD (pathsOf (taskOf (getD (t .tasks) j z)) d) (getD ps j 0) [])) where
+  module _ (z : Task) {now : List ℕ} {at j : ℕ} (w : WrittenSoFar ks h d ps before now at j) (m : j < h) (r : Lister.Path) (e : r ≡ pathRecord (getD (pathsOf (taskOf (getD (t .tasks) j z)) d) (getD ps j 0) [])) where
     pub path-asks : (r .len ≤ largestD) × (length (r .vertices) ≡ largestD) × (at + 1 + r .len ≤ length now)
     unfolding pathOf
     path-asks =
@@ -123,9 +122,9 @@ module _ (t : Table) (k : Held t) (h d : ℕ) (l : h < t .n) (o : 0 < d) (u : d 
           omega (arith, w .short, w .same, row-fits j m, suc-mul j (1 + d)),
         )
 
-    pub writing-more : {after : List ℕ} {next : ℕ} → Wrote (pathCells r) now at after next → Writing ks h d ps before after next (j + 1)
+    pub written-more : {after : List ℕ} {next : ℕ} → Wrote (pathCells r) now at after next → WrittenSoFar ks h d ps before after next (j + 1)
     unfolding pathOf
-    writing-more {after} {next} v =
+    written-more {after} {next} v =
         let cells : pathCells r ≡ length (pathOf z j) ∷ pathOf z j = ap pathCells e ∙ record-cells (pathOf z j) in
         let there : j < length (pathsAt ks d ps) = omega (arith, paths-length ks d ps (omega (arith, many, few)), many) in
         let more : cellsOf (take (j + 1) (pathsAt ks d ps)) ≡ cellsOf (take j (pathsAt ks d ps)) ++ pathCells r = (
@@ -141,8 +140,8 @@ module _ (t : Table) (k : Held t) (h d : ℕ) (l : h < t .n) (o : 0 < d) (u : d 
           wrote = subst (λ (x : List ℕ). Wrote x before 0 after next) (sym more) (wrote-then (cellsOf (take j (pathsAt ks d ps))) (pathCells r) (w .wrote) v);
         }
 
-  pub writing-all : {now : List ℕ} {at j : ℕ} → Writing ks h d ps before now at j → h ≤ j → Wrote (cellsOf (pathsAt ks d ps)) before 0 now at × (at ≤ h * (1 + d))
-  writing-all {now} {at} {j} w m =
+  pub written-all : {now : List ℕ} {at j : ℕ} → WrittenSoFar ks h d ps before now at j → h ≤ j → Wrote (cellsOf (pathsAt ks d ps)) before 0 now at × (at ≤ h * (1 + d))
+  written-all {now} {at} {j} w m =
       let e : j ≡ h = omega (arith, w .low) in (
         subst (λ (ws : List Path). Wrote (cellsOf ws) before 0 now at) (take-all j (pathsAt ks d ps) (omega (arith, paths-length ks d ps (omega (arith, many, few)), many))) (w .wrote),
         subst (λ (n : ℕ). at ≤ n * (1 + d)) e (w .short),

@@ -6,6 +6,7 @@ mod areas;
 mod stretches;
 mod vertex;
 mod witness;
+
 use crate::vertex::judge_vertex;
 use kinds::TaskNumber;
 use kinds::Verdict;

@@ -6,15 +6,8 @@ use Rattle.kinds.specs.declared.Refusal.{Refusal}
 use Rattle.kinds.specs.declared.Refusal.the-variants.{BadLine, WrongFrame, OutOfBounds, DeadlineOverSeparation, EdgeNotAfter, NoEnd, BytesAfterEnd, NoSuchVertex, TooManyPaths, WorkTooShort, WitnessTooShort, InputTooLong}
 use Rattle.kinds.specs.declared.Verdict.{Verdict}
 use Rattle.kinds.specs.declared.Verdict.the-variants.{Meets, Misses, Unfinished, Refused}
-use Rattle.kinds.specs.Numbers.{refusalNumber, verdictNumbers}
+use Rattle.kinds.specs.Numbers.{refusalNumber, refusalOf, verdictNumbers}
 use lib.ListN.{getD}
-
--- the refusal with number n, none beyond the sheet
-abbrev pub refusalOf : ℕ → Refusal
-refusalOf n =
-    getD
-    (BadLine ∷ BadLine ∷ WrongFrame ∷ OutOfBounds ∷ DeadlineOverSeparation ∷ EdgeNotAfter ∷ NoEnd ∷ BytesAfterEnd ∷ NoSuchVertex ∷ TooManyPaths ∷ WorkTooShort ∷ WitnessTooShort ∷ InputTooLong ∷ [])
-    n BadLine
 
 pub refusal-of-number : (r : Refusal) → refusalOf (refusalNumber r) ≡ r
 refusal-of-number BadLine = refl

@@ -10,8 +10,7 @@ use Rattle.meaning.specs.Sound.{SoundTable}
 use Rattle.meaning.specs.Demands.{TextRefused}
 use Rattle.meaning.proofs.Demands.{readable-sound, text-refused}
 use Rattle.kinds.specs.declared.RefusedAt.{RefusedAt}
-use Rattle.kinds.specs.Numbers.{refusalNumber}
-use Rattle.kinds.proofs.Numbers.{refusalOf}
+use Rattle.kinds.specs.Numbers.{refusalNumber, refusalOf}
 use Rattle.table.specs.declared.Table.{Table}
 use Rattle.table.specs.Record.{noTable, tableRecord, tableOf}
 use Rattle.table.proofs.Record.{table-of-record}

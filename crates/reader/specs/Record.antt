@@ -3,7 +3,7 @@ use Prim.Native.Nat.{ℕ}
 use Rattle.meaning.specs.Text as Meant
 use Rattle.meaning.specs.Text.{readable, unreadable}
 use Rattle.kinds.specs.declared.Refusal.{Refusal}
-use Rattle.kinds.proofs.Numbers.{refusalOf}
+use Rattle.kinds.specs.Numbers.{refusalOf}
 use Rattle.table.specs.Record.{noTable, tableRecord}
 use Rattle.reader.specs.declared.Status.the-variants.{Readable, Refused}
 use Rattle.reader.specs.declared.Reading.{Reading}

@@ -4,121 +4,88 @@ use Rattle.judge.proofs.OneVertex.{own-few, count-asks, need-small, cel
 use borrow.Author.Needs.{needs}
 use Rattle.judge.proofs.vertex.judge_vertex.Statement.{statement}
 use Rattle.judge.proofs.vertex.judge_vertex.Tie as tie
-use Rattle.judge.proofs.vertex.judge_vertex.Reads as reads
-use Rattle.judge.proofs.vertex.judge_vertex.Lts as lts
-use Rattle.judge.proofs.above.count_above.Reads as count-above-reads
-use Rattle.judge.proofs.vertex.refused.Reads as refused-reads
-use Rattle.judge.proofs.vertex.walk_above.Reads as walk-above-reads
 
--- src/vertex.rt:80:13
 cast-h : tie.Need-cast-h
 cast-h c = search needs
 
--- src/vertex.rt:82:9
 refused-requires : tie.Need-refused-requires
 refused-requires c κs = search needs
 
--- src/vertex.rt:82:9
 returns : tie.Need-returns
 returns c = answer-8 (c .before .before .before .before .before .args .t1) (c .before .before .before .before .before .pre) ((c .before .before .before .before .before .args .task) .0) ((c .before .before .before .before .before .args .vertex) .0) (c .before .before .before .before .before .args .budget) (c .before .before .before .before .before .args .work .now) (c .before .before .before .before .before .args .witness .now) (c .before .if1 .taken) (c .refused .ensures)
 
--- src/vertex.rt:84:15
 mul-own : tie.Need-mul-own
 mul-own c = search needs
 
--- src/vertex.rt:84:15
 element-copy-out-own : tie.Need-element-copy-out-own
 element-copy-out-own c = omega (arith, held-few (c .before .before .before .before .args .t1) (c .before .before .before .before .pre))
 
--- src/vertex.rt:85:13
 cast-v : tie.Need-cast-v
 cast-v c = search needs
 
--- src/vertex.rt:87:9
 refused-requires-2 : tie.Need-refused-requires-2
 refused-requires-2 c κs = search needs
 
--- src/vertex.rt:87:9
 returns-2 : tie.Need-returns-2
 returns-2 c = answer-8-vertex (c .before .before .before .before .before .before .before .before .args .t1) (c .before .before .before .before .before .before .before .before .pre) ((c .before .before .before .before .before .before .before .before .args .task) .0) ((c .before .before .before .before .before .before .before .before .args .vertex) .0) (c .before .before .before .before .before .before .before .before .args .budget) (c .before .before .before .before .before .before .before .before .args .work .now) (c .before .before .before .before .before .before .before .before .args .witness .now) (c .before .before .before .before .if1 .left) (c .before .if2 .taken) (c .refused2 .ensures)
 
--- src/vertex.rt:89:15
 mul-job : tie.Need-mul-job
 mul-job c = search needs
 
--- src/vertex.rt:89:15
 element-copy-out-job : tie.Need-element-copy-out-job
 element-copy-out-job c = omega (arith, own-few (c .before .before .before .before .before .before .before .args .t1) (c .before .before .before .before .before .before .before .pre) ((c .before .before .before .before .before .before .before .args .task) .0) (c .before .before .before .if1 .left) .0)
 
--- src/vertex.rt:90:9
 count-above-requires : tie.Need-count-above-requires
 count-above-requires c κs = count-asks (c .before .before .before .before .before .before .before .before .args .t1) (c .before .before .before .before .before .before .before .before .pre) ((c .before .before .before .before .before .before .before .before .args .task) .0) ((c .before .before .before .before .before .before .before .before .args .vertex) .0) (c .before .before .before .before .before .before .before .before .args .budget) (c .before .before .before .before .before .before .before .before .args .work .now) (c .before .before .before .before .before .before .before .before .args .witness .now) (c .before .before .before .before .if1 .left) (c .before .if2 .left)
 
--- src/vertex.rt:93:47
 cast-refused : tie.Need-cast-refused
 cast-refused c = search needs
 
--- src/vertex.rt:93:9
 refused-requires-3 : tie.Need-refused-requires-3
 refused-requires-3 c κs = search needs
 
--- src/vertex.rt:93:9
 returns-3 : tie.Need-returns-3
 returns-3 c = answer-9 (c .before .before .before .before .before .before .before .before .before .before .before .args .t1) (c .before .before .before .before .before .before .before .before .before .before .before .pre) ((c .before .before .before .before .before .before .before .before .before .before .before .args .task) .0) ((c .before .before .before .before .before .before .before .before .before .before .before .args .vertex) .0) (c .before .before .before .before .before .before .before .before .before .before .before .args .budget) (c .before .before .before .before .before .before .before .before .before .before .before .args .work .now) (c .before .before .before .before .before .before .before .before .before .before .before .args .witness .now) (c .before .before .before .before .before .before .before .if1 .left) (c .before .before .before .before .if2 .left) (c .before .before .count-above .result) (c .before .before .count-above .ensures) (c .before .if3 .taken) (c .refused3 .ensures)
 
--- src/vertex.rt:95:13
 cast-d : tie.Need-cast-d
 cast-d c = search needs
 
--- src/vertex.rt:96:16
 mul-need : tie.Need-mul-need
 mul-need c = omega (arith, need-small (c .before .before .before .before .before .before .before .before .before .before .before .before .args .t1) (c .before .before .before .before .before .before .before .before .before .before .before .before .pre) ((c .before .before .before .before .before .before .before .before .before .before .before .before .args .task) .0) ((c .before .before .before .before .before .before .before .before .before .before .before .before .args .vertex) .0) (c .before .before .before .before .before .before .before .before .before .before .before .before .args .budget) (c .before .before .before .before .before .before .before .before .before .before .before .before .args .work .now) (c .before .before .before .before .before .before .before .before .before .before .before .before .args .witness .now) (c .before .before .before .before .before .before .before .before .if1 .left) (c .before .before .before .before .before .if2 .left) (c .before .before .before .count-above .result) (c .before .before .before .count-above .ensures))
 
--- src/vertex.rt:98:47
 cast-refused-2 : tie.Need-cast-refused-2
 cast-refused-2 c = omega (arith, need-small (c .before .before .before .before .before .before .before .before .before .before .before .before .before .args .t1) (c .before .before .before .before .before .before .before .before .before .before .before .before .before .pre) ((c .before .before .before .before .before .before .before .before .before .before .before .before .before .args .task) .0) ((c .before .before .before .before .before .before .before .before .before .before .before .before .before .args .vertex) .0) (c .before .before .before .before .before .before .before .before .before .before .before .before .before .args .budget) (c .before .before .before .before .before .before .before .before .before .before .before .before .before .args .work .now) (c .before .before .before .before .before .before .before .before .before .before .before .before .before .args .witness .now) (c .before .before .before .before .before .before .before .before .before .if1 .left) (c .before .before .before .before .before .before .if2 .left) (c .before .before .before .before .count-above .result) (c .before .before .before .before .count-above .ensures))
 
--- src/vertex.rt:98:9
 refused-requires-4 : tie.Need-refused-requires-4
 refused-requires-4 c κs = search needs
 
--- src/vertex.rt:98:9
 returns-4 : tie.Need-returns-4
 returns-4 c = answer-10 (c .before .before .before .before .before .before .before .before .before .before .before .before .before .before .args .t1) (c .before .before .before .before .before .before .before .before .before .before .before .before .before .before .pre) ((c .before .before .before .before .before .before .before .before .before .before .before .before .before .before .args .task) .0) ((c .before .before .before .before .before .before .before .before .before .before .before .before .before .before .args .vertex) .0) (c .before .before .before .before .before .before .before .before .before .before .before .before .before .before .args .budget) (c .before .before .before .before .before .before .before .before .before .before .before .before .before .before .args .work .now) (c .before .before .before .before .before .before .before .before .before .before .before .before .before .before .args .witness .now) (c .before .before .before .before .before .before .before .before .before .before .if1 .left) (c .before .before .before .before .before .before .before .if2 .left) (c .before .before .before .before .before .count-above .result) (c .before .before .before .before .before .count-above .ensures) (c .before .before .before .before .if3 .left) (c .before .if4 .taken) (c .refused4 .ensures)
 
--- src/vertex.rt:100:22
 add-cells : tie.Need-add-cells
 add-cells c = search needs
 
--- src/vertex.rt:100:17
 mul-cells : tie.Need-mul-cells
 mul-cells c = omega (arith, cells-small (c .before .before .before .before .before .before .before .before .before .before .before .before .before .args .t1) (c .before .before .before .before .before .before .before .before .before .before .before .before .before .pre) ((c .before .before .before .before .before .before .before .before .before .before .before .before .before .args .task) .0) ((c .before .before .before .before .before .before .before .before .before .before .before .before .before .args .vertex) .0) (c .before .before .before .before .before .before .before .before .before .before .before .before .before .args .budget) (c .before .before .before .before .before .before .before .before .before .before .before .before .before .args .work .now) (c .before .before .before .before .before .before .before .before .before .before .before .before .before .args .witness .now) (c .before .before .before .before .before .before .before .before .before .if1 .left) (c .before .before .before .before .before .before .if2 .left) (c .before .before .before .before .count-above .result) (c .before .before .before .before .count-above .ensures))
 
--- src/vertex.rt:102:50
 cast-refused-3 : tie.Need-cast-refused-3
 cast-refused-3 c = omega (arith, cells-small (c .before .before .before .before .before .before .before .before .before .before .before .before .before .before .args .t1) (c .before .before .before .before .before .before .before .before .before .before .before .before .before .before .pre) ((c .before .before .before .before .before .before .before .before .before .before .before .before .before .before .args .task) .0) ((c .before .before .before .before .before .before .before .before .before .before .before .before .before .before .args .vertex) .0) (c .before .before .before .before .before .before .before .before .before .before .before .before .before .before .args .budget) (c .before .before .before .before .before .before .before .before .before .before .before .before .before .before .args .work .now) (c .before .before .before .before .before .before .before .before .before .before .before .before .before .before .args .witness .now) (c .before .before .before .before .before .before .before .before .before .before .if1 .left) (c .before .before .before .before .before .before .before .if2 .left) (c .before .before .before .before .before .count-above .result) (c .before .before .before .before .before .count-above .ensures))
 
--- src/vertex.rt:102:9
 refused-requires-5 : tie.Need-refused-requires-5
 refused-requires-5 c κs = search needs
 
--- src/vertex.rt:102:9
 returns-5 : tie.Need-returns-5
 returns-5 c = answer-11 (c .before .before .before .before .before .before .before .before .before .before .before .before .before .before .before .args .t1) (c .before .before .before .before .before .before .before .before .before .before .before .before .before .before .before .pre) ((c .before .before .before .before .before .before .before .before .before .before .before .before .before .before .before .args .task) .0) ((c .before .before .before .before .before .before .before .before .before .before .before .before .before .before .before .args .vertex) .0) (c .before .before .before .before .before .before .before .before .before .before .before .before .before .before .before .args .budget) (c .before .before .before .before .before .before .before .before .before .before .before .before .before .before .before .args .work .now) (c .before .before .before .before .before .before .before .before .before .before .before .before .before .before .before .args .witness .now) (c .before .before .before .before .before .before .before .before .before .before .before .if1 .left) (c .before .before .before .before .before .before .before .before .if2 .left) (c .before .before .before .before .before .before .count-above .result) (c .before .before .before .before .before .before .count-above .ensures) (c .before .before .before .before .before .if3 .left) (c .before .before .if4 .left) (c .before .if5 .taken) (c .refused5 .ensures)
 
--- src/vertex.rt:104:5
 walk-above-requires : tie.Need-walk-above-requires
 walk-above-requires c κs = walk-asks (c .before .before .before .before .before .before .before .before .before .before .before .before .before .before .before .before .args .t1) (c .before .before .before .before .before .before .before .before .before .before .before .before .before .before .before .before .pre) ((c .before .before .before .before .before .before .before .before .before .before .before .before .before .before .before .before .args .task) .0) ((c .before .before .before .before .before .before .before .before .before .before .before .before .before .before .before .before .args .vertex) .0) (c .before .before .before .before .before .before .before .before .before .before .before .before .before .before .before .before .args .budget) (c .before .before .before .before .before .before .before .before .before .before .before .before .before .before .before .before .args .work .now) (c .before .before .before .before .before .before .before .before .before .before .before .before .before .before .before .before .args .witness .now) (c .before .before .before .before .before .before .before .before .before .before .before .before .if1 .left) (c .before .before .before .before .before .before .before .before .before .if2 .left) (c .before .before .before .before .before .before .before .count-above .result) (c .before .before .before .before .before .before .before .count-above .ensures) (c .before .before .before .before .before .before .if3 .left) (c .before .before .before .if4 .left) (c .before .before .if5 .left)
 
--- src/vertex.rt:69:1
 same-length : tie.Need-same-length
 same-length c = search needs
 
--- src/vertex.rt:69:1
 same-length-2 : tie.Need-same-length-2
 same-length-2 c = search needs
 
--- src/vertex.rt:69:1
 returns-6 : tie.Need-returns-6
 returns-6 c = answer-walk (c .before .before .before .before .before .before .before .before .before .before .before .before .before .before .before .before .before .before .before .before .before .args .t1) (c .before .before .before .before .before .before .before .before .before .before .before .before .before .before .before .before .before .before .before .before .before .pre) ((c .before .before .before .before .before .before .before .before .before .before .before .before .before .before .before .before .before .before .before .before .before .args .task) .0) ((c .before .before .before .before .before .before .before .before .before .before .before .before .before .before .before .before .before .before .before .before .before .args .vertex) .0) (c .before .before .before .before .before .before .before .before .before .before .before .before .before .before .before .before .before .before .before .before .before .args .budget) (c .before .before .before .before .before .before .before .before .before .before .before .before .before .before .before .before .before .before .before .before .before .args .work .now) (c .before .before .before .before .before .before .before .before .before .before .before .before .before .before .before .before .before .before .before .before .before .args .witness .now) (c .before .before .before .before .before .before .before .before .before .before .before .before .before .before .before .before .before .if1 .left) (c .before .before .before .before .before .before .before .before .before .before .before .before .before .before .if2 .left) (c .before .before .before .before .before .before .before .before .before .before .before .before .count-above .result) (c .before .before .before .before .before .before .before .before .before .before .before .before .count-above .ensures) (c .before .before .before .before .before .before .before .before .before .before .before .if3 .left) (c .before .before .before .before .before .before .before .before .if4 .left) (c .before .before .before .before .walk-above .result) _ _ (c .before .before .before .before .before .before .before .if5 .left) (c .before .before .before .before .walk-above .ensures)
 

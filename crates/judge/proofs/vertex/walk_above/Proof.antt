@@ -4,90 +4,64 @@ use Rattle.judge.proofs.Walking.{cells-fit, front-length, walk-asks, pl
 use borrow.Author.Needs.{needs}
 use Rattle.judge.proofs.vertex.walk_above.Statement.{statement}
 use Rattle.judge.proofs.vertex.walk_above.Tie as tie
-use Rattle.judge.proofs.vertex.walk_above.Reads as reads
-use Rattle.judge.proofs.vertex.walk_above.Lts as lts
-use Rattle.judge.proofs.areas.clear.Reads as clear-reads
-use Rattle.judge.proofs.stretches.fill_above.Reads as fill-above-reads
-use Rattle.judge.proofs.witness.write_witness.Reads as write-witness-reads
-use Rattle.walk.proofs.run.Reads as run-reads
 
--- src/vertex.rt:38:17
 cast-ticks : tie.Need-cast-ticks
 cast-ticks c = search needs
 
--- src/vertex.rt:39:16
 mul-need : tie.Need-mul-need
 mul-need c = search needs
 
--- src/vertex.rt:40:5
 fill-above-requires : tie.Need-fill-above-requires
 fill-above-requires c κs = search needs
 
--- src/vertex.rt:41:22
 slice-reshare-prefix-run : tie.Need-slice-reshare-prefix-run
 slice-reshare-prefix-run c = search needs
 
--- src/vertex.rt:41:22
 slice-aggregate-run : tie.Need-slice-aggregate-run
 slice-aggregate-run c = front-length (c .before .before .before .before .before .before .before .before .before .before .before .args .t) ((c .before .before .before .before .before .before .before .before .before .before .before .pre) .0 .0) (c .before .before .before .before .before .before .before .before .before .before .before .args .h) ((c .before .before .before .before .before .before .before .before .before .before .before .args .d) .0) ((c .before .before .before .before .before .before .before .before .before .before .before .pre) .0 .1) (c .before .before .before .before .before .before .before .before .before .before .before .args .above) ((c .before .before .before .before .before .before .before .before .before .before .before .pre) .1 .0) ((c .before .before .before .before .before .before .before .before .before .before .before .pre) .1 .1) (c .before .before .before .before .before .before .before .before .before .before .before .args .work .now) (c .before .before .before .fill-above .last .0) (c .before .before .before .fill-above .ensures)
 
--- src/vertex.rt:41:64
 cast-run : tie.Need-cast-run
 cast-run c = search needs
 
--- src/vertex.rt:41:9
 run-requires : tie.Need-run-requires
 run-requires c κs = walk-asks (c .before .before .before .before .before .before .before .before .before .before .before .before .before .before .args .t) ((c .before .before .before .before .before .before .before .before .before .before .before .before .before .before .pre) .0 .0) (c .before .before .before .before .before .before .before .before .before .before .before .before .before .before .args .h) ((c .before .before .before .before .before .before .before .before .before .before .before .before .before .before .args .d) .0) ((c .before .before .before .before .before .before .before .before .before .before .before .before .before .before .pre) .0 .1) (c .before .before .before .before .before .before .before .before .before .before .before .before .before .before .args .above) ((c .before .before .before .before .before .before .before .before .before .before .before .before .before .before .pre) .1 .0) ((c .before .before .before .before .before .before .before .before .before .before .before .before .before .before .pre) .1 .1) (c .before .before .before .before .before .before .before .before .before .before .before .before .before .before .args .work .now) (c .before .before .before .before .before .before .fill-above .last .0) (c .before .before .before .before .before .before .fill-above .ensures) ((c .before .before .before .before .before .before .before .before .before .before .before .before .before .before .args .e) .0) ((c .before .before .before .before .before .before .before .before .before .before .before .before .before .before .pre) .0 .2)
 
--- src/vertex.rt:42:5
 clear-requires : tie.Need-clear-requires
 clear-requires c κs = search needs
 
--- src/vertex.rt:45:23
 enum-known-ending : tie.Need-enum-known-ending
 enum-known-ending c = search needs
 
--- src/vertex.rt:46:28
 enum-known-ending-2 : tie.Need-enum-known-ending-2
 enum-known-ending-2 c = search needs
 
--- src/vertex.rt:47:24
 enum-known-ending-3 : tie.Need-enum-known-ending-3
 enum-known-ending-3 c = search needs
 
--- src/vertex.rt:49:17
 write-witness-requires : tie.Need-write-witness-requires
 write-witness-requires c κs = (((c .before .before .before .before .before .before .before .before .before .before .before .before .before .before .before .before .before .before .before .before .before .before .before .before .pre) .0 .0, (c .before .before .before .before .before .before .before .before .before .before .before .before .before .before .before .before .before .before .before .before .before .before .before .before .pre) .0 .1, (c .before .before .before .before .before .before .before .before .before .before .before .before .before .before .before .before .before .before .before .before .before .before .before .before .pre) .0 .3, (c .before .before .before .before .before .before .before .before .before .before .before .before .before .before .before .before .before .before .before .before .before .before .before .before .pre) .1 .0 .calm .short), (places-small (c .before .before .before .before .before .before .before .before .before .before .before .before .before .before .before .before .before .before .before .before .before .before .before .before .args .t) ((c .before .before .before .before .before .before .before .before .before .before .before .before .before .before .before .before .before .before .before .before .before .before .before .before .pre) .0 .0) (c .before .before .before .before .before .before .before .before .before .before .before .before .before .before .before .before .before .before .before .before .before .before .before .before .args .h) ((c .before .before .before .before .before .before .before .before .before .before .before .before .before .before .before .before .before .before .before .before .before .before .before .before .args .d) .0) ((c .before .before .before .before .before .before .before .before .before .before .before .before .before .before .before .before .before .before .before .before .before .before .before .before .pre) .0 .1) (c .before .before .before .before .before .before .before .before .before .before .before .before .before .before .before .before .before .before .before .before .before .before .before .before .args .above) ((c .before .before .before .before .before .before .before .before .before .before .before .before .before .before .before .before .before .before .before .before .before .before .before .before .pre) .1 .0) ((c .before .before .before .before .before .before .before .before .before .before .before .before .before .before .before .before .before .before .before .before .before .before .before .before .pre) .1 .1) (c .before .before .before .before .before .before .before .before .before .before .before .before .before .before .before .before .before .before .before .before .before .before .before .before .args .work .now) (c .before .before .before .before .before .before .before .before .before .before .before .before .before .before .before .before .fill-above .last .0) (c .before .before .before .before .before .before .before .before .before .before .before .before .before .before .before .before .fill-above .ensures) ((c .before .before .before .before .before .before .before .before .before .before .before .before .before .before .before .before .before .before .before .before .before .before .before .before .args .e) .0) (c .before .before .before .before .before .before .before .before .before .before .before .before .before .before .before .before .before .before .before .before .before .before .before .before .args .budget) ((c .before .before .before .before .before .before .before .before .before .before .before .before .before .before .before .before .before .before .before .before .before .before .before .before .pre) .0 .2) (c .before .before .before .before .before .before .before .before .before .run .result) (c .before .before .before .before .before .before .before .before .before .run .ensures) ((c .before .before .before .ending3 .given .0 .0)) (c .before .before .before .ending3 .given .1), (c .before .before .before .before .before .before .before .before .before .before .before .before .before .before .before .before .before .before .before .before .before .before .before .before .pre) .1 .3))
 
--- src/vertex.rt:50:36
 cast-t33 : tie.Need-cast-t33
 cast-t33 c = omega (arith, cells-fit ((c .before .before .before .before .before .before .before .before .before .before .before .before .before .before .before .before .before .before .before .before .before .before .before .before .before .before .before .pre) .1 .0 .calm .seven) ((c .before .before .before .before .before .before .before .before .before .before .before .before .before .before .before .before .before .before .before .before .before .before .before .before .before .before .before .pre) .1 .0 .calm .short) ((c .before .before .write-witness .ensures) .1))
 
--- src/vertex.rt:22:1
 same-length : tie.Need-same-length
 same-length c = search needs
 
--- src/vertex.rt:22:1
 returns : tie.Need-returns
 returns c = answer-meets (c .before .before .before .before .before .before .before .before .before .before .before .before .before .before .before .before .before .before .before .before .before .before .args .t) ((c .before .before .before .before .before .before .before .before .before .before .before .before .before .before .before .before .before .before .before .before .before .before .pre) .0 .0) (c .before .before .before .before .before .before .before .before .before .before .before .before .before .before .before .before .before .before .before .before .before .before .args .h) ((c .before .before .before .before .before .before .before .before .before .before .before .before .before .before .before .before .before .before .before .before .before .before .args .d) .0) ((c .before .before .before .before .before .before .before .before .before .before .before .before .before .before .before .before .before .before .before .before .before .before .pre) .0 .1) (c .before .before .before .before .before .before .before .before .before .before .before .before .before .before .before .before .before .before .before .before .before .before .args .above) ((c .before .before .before .before .before .before .before .before .before .before .before .before .before .before .before .before .before .before .before .before .before .before .pre) .1 .0) ((c .before .before .before .before .before .before .before .before .before .before .before .before .before .before .before .before .before .before .before .before .before .before .pre) .1 .1) (c .before .before .before .before .before .before .before .before .before .before .before .before .before .before .before .before .before .before .before .before .before .before .args .work .now) (c .before .before .before .before .before .before .before .before .before .before .before .before .before .before .fill-above .last .0) (c .before .before .before .before .before .before .before .before .before .before .before .before .before .before .fill-above .ensures) ((c .before .before .before .before .before .before .before .before .before .before .before .before .before .before .before .before .before .before .before .before .before .before .args .e) .0) (c .before .before .before .before .before .before .before .before .before .before .before .before .before .before .before .before .before .before .before .before .before .before .args .budget) ((c .before .before .before .before .before .before .before .before .before .before .before .before .before .before .before .before .before .before .before .before .before .before .pre) .0 .2) (c .before .before .before .before .before .before .before .run .result) (c .before .before .before .before .before .before .before .run .ensures) (c .before .before .before .before .before .clear .last .0) (c .before .before .before .before .before .before .before .before .before .before .before .before .before .before .before .before .before .before .before .before .before .before .args .witness .now) (c .before .before .before .before .before .clear .ensures) ((c .before .ending .given .0 .0)) (c .before .ending .given .1)
 
--- src/vertex.rt:22:1
 same-length-2 : tie.Need-same-length-2
 same-length-2 c = search needs
 
--- src/vertex.rt:22:1
 returns-2 : tie.Need-returns-2
 returns-2 c = answer-unfinished (c .before .before .before .before .before .before .before .before .before .before .before .before .before .before .before .before .before .before .before .before .before .before .args .t) ((c .before .before .before .before .before .before .before .before .before .before .before .before .before .before .before .before .before .before .before .before .before .before .pre) .0 .0) (c .before .before .before .before .before .before .before .before .before .before .before .before .before .before .before .before .before .before .before .before .before .before .args .h) ((c .before .before .before .before .before .before .before .before .before .before .before .before .before .before .before .before .before .before .before .before .before .before .args .d) .0) ((c .before .before .before .before .before .before .before .before .before .before .before .before .before .before .before .before .before .before .before .before .before .before .pre) .0 .1) (c .before .before .before .before .before .before .before .before .before .before .before .before .before .before .before .before .before .before .before .before .before .before .args .above) ((c .before .before .before .before .before .before .before .before .before .before .before .before .before .before .before .before .before .before .before .before .before .before .pre) .1 .0) ((c .before .before .before .before .before .before .before .before .before .before .before .before .before .before .before .before .before .before .before .before .before .before .pre) .1 .1) (c .before .before .before .before .before .before .before .before .before .before .before .before .before .before .before .before .before .before .before .before .before .before .args .work .now) (c .before .before .before .before .before .before .before .before .before .before .before .before .before .before .fill-above .last .0) (c .before .before .before .before .before .before .before .before .before .before .before .before .before .before .fill-above .ensures) ((c .before .before .before .before .before .before .before .before .before .before .before .before .before .before .before .before .before .before .before .before .before .before .args .e) .0) (c .before .before .before .before .before .before .before .before .before .before .before .before .before .before .before .before .before .before .before .before .before .before .args .budget) ((c .before .before .before .before .before .before .before .before .before .before .before .before .before .before .before .before .before .before .before .before .before .before .pre) .0 .2) (c .before .before .before .before .before .before .before .run .result) (c .before .before .before .before .before .before .before .run .ensures) (c .before .before .before .before .before .clear .last .0) (c .before .before .before .before .before .before .before .before .before .before .before .before .before .before .before .before .before .before .before .before .before .before .args .witness .now) (c .before .before .before .before .before .clear .ensures) ((c .before .ending2 .given .0 .0)) (c .before .ending2 .given .1)
 
--- src/vertex.rt:22:1
 same-length-3 : tie.Need-same-length-3
 same-length-3 c = search needs
 
--- src/vertex.rt:22:1
 same-length-4 : tie.Need-same-length-4
 same-length-4 c = search needs
 
--- src/vertex.rt:22:1
 returns-3 : tie.Need-returns-3
 returns-3 c = answer-misses (c .before .before .before .before .before .before .before .before .before .before .before .before .before .before .before .before .before .before .before .before .before .before .before .before .before .before .before .args .t) ((c .before .before .before .before .before .before .before .before .before .before .before .before .before .before .before .before .before .before .before .before .before .before .before .before .before .before .before .pre) .0 .0) (c .before .before .before .before .before .before .before .before .before .before .before .before .before .before .before .before .before .before .before .before .before .before .before .before .before .before .before .args .h) ((c .before .before .before .before .before .before .before .before .before .before .before .before .before .before .before .before .before .before .before .before .before .before .before .before .before .before .before .args .d) .0) ((c .before .before .before .before .before .before .before .before .before .before .before .before .before .before .before .before .before .before .before .before .before .before .before .before .before .before .before .pre) .0 .1) (c .before .before .before .before .before .before .before .before .before .before .before .before .before .before .before .before .before .before .before .before .before .before .before .before .before .before .before .args .above) ((c .before .before .before .before .before .before .before .before .before .before .before .before .before .before .before .before .before .before .before .before .before .before .before .before .before .before .before .pre) .1 .0) ((c .before .before .before .before .before .before .before .before .before .before .before .before .before .before .before .before .before .before .before .before .before .before .before .before .before .before .before .pre) .1 .1) (c .before .before .before .before .before .before .before .before .before .before .before .before .before .before .before .before .before .before .before .before .before .before .before .before .before .before .before .args .work .now) (c .before .before .before .before .before .before .before .before .before .before .before .before .before .before .before .before .before .before .before .fill-above .last .0) (c .before .before .before .before .before .before .before .before .before .before .before .before .before .before .before .before .before .before .before .fill-above .ensures) ((c .before .before .before .before .before .before .before .before .before .before .before .before .before .before .before .before .before .before .before .before .before .before .before .before .before .before .before .args .e) .0) (c .before .before .before .before .before .before .before .before .before .before .before .before .before .before .before .before .before .before .before .before .before .before .before .before .before .before .before .args .budget) ((c .before .before .before .before .before .before .before .before .before .before .before .before .before .before .before .before .before .before .before .before .before .before .before .before .before .before .before .pre) .0 .2) (c .before .before .before .before .before .before .before .before .before .before .before .before .run .result) (c .before .before .before .before .before .before .before .before .before .before .before .before .run .ensures) (c .before .before .before .before .before .before .before .before .before .before .clear .last .0) (c .before .before .before .before .before .before .before .before .before .before .before .before .before .before .before .before .before .before .before .before .before .before .before .before .before .before .before .args .witness .now) (c .before .before .before .before .before .before .before .before .before .before .clear .ensures) ((c .before .before .before .before .before .before .ending3 .given .0 .0)) _ _ (c .before .before .before .before .before .before .ending3 .given .1) ((c .before .before .write-witness .ensures) .0) (le-trans ((c .before .before .write-witness .ensures) .1) ((c .before .before .before .before .before .before .before .before .before .before .before .before .before .before .before .before .before .before .before .before .before .before .before .before .before .before .before .pre) .1 .3))
 

@@ -6,8 +6,6 @@ use borrow.Author.Needs.{needs}
 use Rattle.judge.proofs.Placing.{Placing, placing-none, placing-more, placing-all, numbersIn, numbers-length, number-at, wrote-length-then}
 use Rattle.judge.proofs.witness.write_path.Statement.{statement}
 use Rattle.judge.proofs.witness.write_path.Tie as tie
-use Rattle.judge.proofs.witness.write_path.Reads as reads
-use Rattle.judge.proofs.witness.write_path.Lts as lts
 
 abbrev Inv-loop : tie.InvT-loop
 Inv-loop witness₀ at path len from i₀ witness i = (len ≤ length (path .vertices)) × Placing (numbersIn len (path .vertices)) from witness₀ witness i
@@ -15,67 +13,51 @@ Inv-loop witness₀ at path len from i₀ witness i = (len ≤ length (path .ver
 abbrev μ-loop : tie.MeasureT-loop
 μ-loop witness₀ at path len from i₀ witness i = len - i
 
--- src/witness.rt:24:19
 cast-witness : tie.Need-cast-witness Inv-loop μ-loop
 cast-witness c = search needs
 
--- src/witness.rt:24:5
 mul-witness : tie.Need-mul-witness Inv-loop μ-loop
 mul-witness c = search needs
 
--- src/witness.rt:24:5
 slice-write-witness : tie.Need-slice-write-witness Inv-loop μ-loop
 slice-write-witness c = search needs
 
--- src/witness.rt:25:16
 add-from : tie.Need-add-from Inv-loop μ-loop
 add-from c = search needs
 
--- src/witness.rt:27:5
 loop-holds : tie.Need-loop-holds Inv-loop μ-loop
 loop-holds c = let f : (c .args .t3 .len) ≤ length (c .args .t3 .vertices) = omega (arith, (c .pre) .0, (c .pre) .1) in (f, placing-none _ _ _ (rw length-set (omega (arith, (c .pre) .2, numbers-length (c .args .t3 .len) (c .args .t3 .vertices) f))))
 
--- src/witness.rt:28:17
 element-copy-out-v : tie.Need-element-copy-out-v Inv-loop μ-loop
 element-copy-out-v c = search needs
 
--- src/witness.rt:29:29
 cast-witness-2 : tie.Need-cast-witness-2 Inv-loop μ-loop
 cast-witness-2 c = search needs
 
--- src/witness.rt:29:17
 add-witness : tie.Need-add-witness Inv-loop μ-loop
 add-witness c = search needs
 
--- src/witness.rt:29:9
 mul-witness-2 : tie.Need-mul-witness-2 Inv-loop μ-loop
 mul-witness-2 c = search needs
 
--- src/witness.rt:29:9
 slice-write-witness-2 : tie.Need-slice-write-witness-2 Inv-loop μ-loop
 slice-write-witness-2 c = omega (arith, (c .before .before .before .loop .inv) .1 .same, (c .before .before .before .loop .inv) .1 .room, numbers-length (c .before .before .before .before .args .t3 .len) (c .before .before .before .before .args .t3 .vertices) ((c .before .before .before .loop .inv) .0))
 
--- src/witness.rt:30:9
 add-i : tie.Need-add-i Inv-loop μ-loop
 add-i c = search needs
 
--- src/witness.rt:27:5
 loop-less : tie.Need-loop-less Inv-loop μ-loop
 loop-less c = search needs
 
--- src/witness.rt:27:5
 loop-again : tie.Need-loop-again Inv-loop μ-loop
 loop-again c = ((c .before .before .before .loop .inv) .0, placing-more _ ((c .before .before .before .loop .inv) .1) (omega (arith, numbers-length (c .before .before .before .before .args .t3 .len) (c .before .before .before .before .args .t3 .vertices) ((c .before .before .before .loop .inv) .0))) (number-at (c .before .before .before .before .args .t3 .len) (c .before .before .before .before .args .t3 .vertices) _ (c .before .before .before .loop .i) ((c .before .before .before .loop .inv) .0) (search needs)))
 
--- src/witness.rt:32:5
 add-result : tie.Need-add-result Inv-loop μ-loop
 add-result c = search needs
 
--- src/witness.rt:19:1
 same-length : tie.Need-same-length Inv-loop μ-loop
 same-length c = (c .before .loop .inv) .1 .same ∙ rw length-set
 
--- src/witness.rt:19:1
 returns : tie.Need-returns Inv-loop μ-loop
 returns c = wrote-length-then _ _ _ _ _ _ (placing-all (c .before .before .args .t3 .len) ((c .before .loop .inv) .1) (numbers-length (c .before .before .args .t3 .len) (c .before .before .args .t3 .vertices) ((c .before .loop .inv) .0)) (search needs))
 
