@@ -15,10 +15,31 @@ use table::Edge;
 use table::Vertex;
 ghost use mathlib.Core.Path.{_≡_};
 ghost use Prim.Native.Nat.{_<_, _≤_};
+ghost use Rattle.meaning.specs.Bounds.{mostVertices};
 ghost use Rattle.lines.specs.Digits.{Worths};
 ghost use Rattle.lines.specs.Frames.{faultOf, startsWith, vertexIn, vertexLine, edgeIn, edgeLine, endLine, taskIn, taskOrEndLine};
 
 pub mod digits; // digits.rt: what stands at a place of a text
+
+// The bounds of the numbers in a frame; the least of each is 1, of edges 0.
+const MOST_TASKS: usize = 8;
+
+const MOST_VERTICES: u32 = 12;
+
+const MOST_EDGES: u32 = 32;
+
+const LARGEST_E: u32 = 1000;
+
+const LARGEST_D: u32 = 200;
+
+const LARGEST_P: u32 = 1000;
+
+// The digits of each frame's line; a vertex's and an edge's have the same.
+const TASK_DIGITS: usize = 6;
+
+const PART_DIGITS: usize = 10;
+
+const END_DIGITS: usize = 2;
 
 // How a line is refused that should have n digits: for what it is (1, 2, or 6 where there is none), and else by the row `then`.
 pub(crate) fn fault(w: &[u16; 256], text: &[u8], n: usize, then: Refusal) -> Refusal
@@ -61,26 +82,26 @@ pub(crate) fn vertex_in(e: u32, d: u32) -> bool
     if e < 1 {
         return false;
     }
-    if 1000 < e {
+    if LARGEST_E < e {
         return false;
     }
     if d < 1 {
         return false;
     }
-    d <= 200
+    d <= LARGEST_D
 }
 
 pub fn vertex_line(w: &[u16; 256], text: &[u8]) -> VertexLine
     requires { ⌜ Worths (now w) ⌝ }
     ensures { λ r. ⌜ r ≡ vertexLine (now (text .entry)) ⌝ }
 {
-    if !starts(text, b'2', 10) {
-        return VertexLine::VertexRefused(fault(w, text, 10, Refusal::WrongFrame));
+    if !starts(text, b'2', PART_DIGITS) {
+        return VertexLine::VertexRefused(fault(w, text, PART_DIGITS, Refusal::WrongFrame));
     }
     let e = word_at(w, text, 2);
     let d = word_at(w, text, 6);
     if !vertex_in(e, d) {
-        return VertexLine::VertexRefused(fault(w, text, 10, Refusal::OutOfBounds));
+        return VertexLine::VertexRefused(fault(w, text, PART_DIGITS, Refusal::OutOfBounds));
     }
     VertexLine::VertexTaken(Vertex {
         e: Ticks(e as u16),
@@ -100,7 +121,7 @@ pub(crate) fn edge_in(n: u32, from: u32, to: u32, p: u32) -> bool
     if p < 1 {
         return false;
     }
-    p <= 1000
+    p <= LARGEST_P
 }
 
 // In a task of n vertices; the edge before it leaves the places from `least` on, where (from, to) has the place from x 256 + to.
@@ -111,17 +132,17 @@ pub fn edge_line(
     vertices: [Vertex; 12],
     least: u32,
 ) -> EdgeLine
-    requires { ⌜ (n ≤ 12) × Worths (now w) ⌝ }
+    requires { ⌜ (n ≤ mostVertices) × Worths (now w) ⌝ }
     ensures { λ r. ⌜ r ≡ edgeLine n vertices least (now (text .entry)) ⌝ }
 {
-    if !starts(text, b'3', 10) {
-        return EdgeLine::EdgeRefused(fault(w, text, 10, Refusal::WrongFrame));
+    if !starts(text, b'3', PART_DIGITS) {
+        return EdgeLine::EdgeRefused(fault(w, text, PART_DIGITS, Refusal::WrongFrame));
     }
     let from = pair_at(w, text, 2);
     let to = pair_at(w, text, 4);
     let p = word_at(w, text, 6);
     if !edge_in(n as u32, from, to, p) {
-        return EdgeLine::EdgeRefused(fault(w, text, 10, Refusal::OutOfBounds));
+        return EdgeLine::EdgeRefused(fault(w, text, PART_DIGITS, Refusal::OutOfBounds));
     }
     let v = from as usize;
     let start = vertices[v];
@@ -143,8 +164,8 @@ pub(crate) fn end_line(w: &[u16; 256], text: &[u8], k: usize) -> TaskOrEndLine
     requires { ⌜ Worths (now w) ⌝ }
     ensures { λ r. ⌜ r ≡ endLine k (now (text .entry)) ⌝ }
 {
-    if !starts(text, b'0', 2) {
-        return TaskOrEndLine::FrameRefused(fault(w, text, 2, Refusal::WrongFrame));
+    if !starts(text, b'0', END_DIGITS) {
+        return TaskOrEndLine::FrameRefused(fault(w, text, END_DIGITS, Refusal::WrongFrame));
     }
     if k == 0 {
         return TaskOrEndLine::FrameRefused(Refusal::WrongFrame);
@@ -158,10 +179,10 @@ pub(crate) fn task_in(v: u32, e: u32) -> bool
     if v < 1 {
         return false;
     }
-    if 12 < v {
+    if MOST_VERTICES < v {
         return false;
     }
-    e <= 32
+    e <= MOST_EDGES
 }
 
 // The line after k whole tasks: another task's, or the end's.
@@ -169,16 +190,16 @@ pub fn task_or_end_line(w: &[u16; 256], text: &[u8], k: usize) -> TaskOrEndLine
     requires { ⌜ Worths (now w) ⌝ }
     ensures { λ r. ⌜ r ≡ taskOrEndLine k (now (text .entry)) ⌝ }
 {
-    if !starts(text, b'1', 6) {
+    if !starts(text, b'1', TASK_DIGITS) {
         return end_line(w, text, k);
     }
-    if 8 <= k {
-        return TaskOrEndLine::FrameRefused(fault(w, text, 6, Refusal::WrongFrame));
+    if MOST_TASKS <= k {
+        return TaskOrEndLine::FrameRefused(fault(w, text, TASK_DIGITS, Refusal::WrongFrame));
     }
     let v = pair_at(w, text, 2);
     let e = pair_at(w, text, 4);
     if !task_in(v, e) {
-        return TaskOrEndLine::FrameRefused(fault(w, text, 6, Refusal::OutOfBounds));
+        return TaskOrEndLine::FrameRefused(fault(w, text, TASK_DIGITS, Refusal::OutOfBounds));
     }
     TaskOrEndLine::TaskTaken(v as usize, e as usize)
 }

@@ -16,6 +16,11 @@ ghost use Rattle.reader.specs.Record.{refusedRecord, readingRecord};
 
 mod parts; // parts.rt: the lines of a task
 
+// The bytes of a task's line, and of the end's.
+const TASK_BYTES: usize = 7;
+
+const END_BYTES: usize = 3;
+
 pub enum Status {
     Readable,
     Refused(RefusedAt),
@@ -54,7 +59,7 @@ pub fn read(text: &[u8]) -> Reading
         match next {
             TaskOrEndLine::FrameRefused(refusal) => return refused(refusal, line),
             TaskOrEndLine::EndTaken => {
-                if text.len() - at != 3 {
+                if text.len() - at != END_BYTES {
                     return refused(Refusal::BytesAfterEnd, line + 1);
                 }
                 return Reading {
@@ -63,7 +68,7 @@ pub fn read(text: &[u8]) -> Reading
                 };
             }
             TaskOrEndLine::TaskTaken(v, e) => {
-                let lines = parts::read_task(&worths, text, at + 7, v, e);
+                let lines = parts::read_task(&worths, text, at + TASK_BYTES, v, e);
                 let outcome = lines.outcome;
                 if let Outcome::StoppedBy(refusal) = outcome {
                     return refused(refusal, line + 1 + lines.count);
@@ -72,7 +77,7 @@ pub fn read(text: &[u8]) -> Reading
                 table.tasks[k] = task;
                 table.n = k + 1;
                 line = line + 1 + v + e;
-                at = at + 7 + (v + e) * 11;
+                at = at + TASK_BYTES + (v + e) * parts::PART_BYTES;
             }
         }
     }

@@ -13,12 +13,16 @@ use table::Vertex;
 ghost use mathlib.Core.Path.{_≡_};
 ghost use Prim.Native.Nat.{_≤_};
 ghost use lib.ListN.{length, drop};
+ghost use Rattle.meaning.specs.Bounds.{mostVertices, mostEdges};
 ghost use Rattle.lines.specs.Digits.{Worths};
 ghost use Rattle.lines.specs.Parts.{vertexLines, edgeLines, stoppedTask, taskLines};
 
+// The bytes of a vertex's line, and of an edge's.
+pub(crate) const PART_BYTES: usize = 11;
+
 // The lines of n vertices.
 pub(crate) fn read_vertices(w: &[u16; 256], text: &[u8], from: usize, n: usize) -> VertexLines
-    requires { ⌜ (from ≤ length (now text)) × (n ≤ 12) × Worths (now w) ⌝ }
+    requires { ⌜ (from ≤ length (now text)) × (n ≤ mostVertices) × Worths (now w) ⌝ }
     ensures { λ r. ⌜ r ≡ vertexLines n (drop from (now (text .entry))) ⌝ }
 {
     let none = table::no_vertex();
@@ -38,7 +42,7 @@ pub(crate) fn read_vertices(w: &[u16; 256], text: &[u8], from: usize, n: usize) 
             VertexLine::VertexTaken(x) => {
                 vertices[i] = x;
                 i += 1;
-                at += 11;
+                at += PART_BYTES;
             }
         }
     }
@@ -58,7 +62,7 @@ pub(crate) fn read_edges(
     vertices: [Vertex; 12],
     m: usize,
 ) -> EdgeLines
-    requires { ⌜ (from ≤ length (now text)) × (n ≤ 12) × (m ≤ 32) × Worths (now w) ⌝ }
+    requires { ⌜ (from ≤ length (now text)) × (n ≤ mostVertices) × (m ≤ mostEdges) × Worths (now w) ⌝ }
     ensures { λ r. ⌜ r ≡ edgeLines n vertices m (drop from (now (text .entry))) ⌝ }
 {
     let none = table::no_edge();
@@ -80,7 +84,7 @@ pub(crate) fn read_edges(
                 least = x.from.0 as u32 * 256 + x.to.0 as u32 + 1;
                 edges[i] = x;
                 i += 1;
-                at += 11;
+                at += PART_BYTES;
             }
         }
     }
@@ -104,7 +108,7 @@ pub(crate) fn stopped(refusal: Refusal, count: usize) -> TaskLines
 
 // The lines of v vertices and e edges.
 pub(crate) fn read_task(w: &[u16; 256], text: &[u8], from: usize, v: usize, e: usize) -> TaskLines
-    requires { ⌜ (from ≤ length (now text)) × (v ≤ 12) × (e ≤ 32) × Worths (now w) ⌝ }
+    requires { ⌜ (from ≤ length (now text)) × (v ≤ mostVertices) × (e ≤ mostEdges) × Worths (now w) ⌝ }
     ensures { λ r. ⌜ r ≡ taskLines v e (drop from (now (text .entry))) ⌝ }
 {
     let a = read_vertices(w, text, from, v);
@@ -113,7 +117,7 @@ pub(crate) fn read_task(w: &[u16; 256], text: &[u8], from: usize, v: usize, e: u
         return stopped(refusal, a.count);
     }
     let vertices = a.vertices;
-    let b = read_edges(w, text, from + v * 11, v, vertices, e);
+    let b = read_edges(w, text, from + v * PART_BYTES, v, vertices, e);
     let second = b.outcome;
     if let Outcome::StoppedBy(refusal) = second {
         return stopped(refusal, v + b.count);
