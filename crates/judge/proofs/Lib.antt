@@ -9,3 +9,4 @@ pub mod Walking
 pub mod Sheet
 pub mod OneVertex
 pub mod Answers
+pub mod Demands

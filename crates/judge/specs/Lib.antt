@@ -2,3 +2,4 @@ pub mod Above
 pub mod Stretches
 pub mod Witness
 pub mod Judged
+pub mod Demands

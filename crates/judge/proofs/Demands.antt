@@ -1,0 +1,115 @@
+-- The demands hold of the judging call: what a verdict's numbers say of the answer, then what the definitions say of it. Assumes nothing.
+use mathlib.Core.Path.{_≡_, refl, sym, ap, subst, _∙_}
+use Prim.Native.Nat.{ℕ, _≤_}
+use mathlib.Core.List.{List, [], _∷_}
+use native.Mathlib.Omega.{arith}
+use lib.ListN.{length, getD}
+use Rattle.meaning.specs.Table.{Table}
+use Rattle.meaning.specs.Text.{Reading, readable, read}
+use Rattle.meaning.specs.Paths.{Path}
+use Rattle.meaning.specs.Verdict as Said
+use Rattle.meaning.specs.Verdict.{meets, misses, unfinished, refused, numbers, cellsOf}
+use Rattle.meaning.specs.Areas.{workAfter, witnessAfter}
+use Rattle.meaning.specs.Judge.{judged, onReading, answer, needOf}
+use Rattle.meaning.specs.Demands.{Given}
+use Rattle.meaning.proofs.Demands.{demand2, demand3}
+use Rattle.kinds.specs.declared.RefusedAt.{RefusedAt}
+use Rattle.kinds.specs.declared.Verdict.{Verdict}
+use Rattle.kinds.specs.declared.Verdict.the-variants.{Meets, Misses, Unfinished, Refused}
+use Rattle.kinds.specs.Numbers.{refusalNumber, verdictNumbers}
+use Rattle.kinds.proofs.Numbers.{same-verdict}
+use Rattle.judge.specs.Judged.{Judged}
+use Rattle.judge.specs.Demands.{Demand1, Demand2, Demand3, Settled}
+
+-- ---- the case from its numbers
+
+cell : {ns ms : List ℕ} (j : ℕ) → ns ≡ ms → getD ns j 0 ≡ getD ms j 0
+cell j q = ap (λ (ns : List ℕ). getD ns j 0) q
+
+says-meets : (x : Said.Verdict) (c : ℕ) → verdictNumbers (Meets c) ≡ numbers x → x ≡ meets c
+says-meets (meets a) c q = ap meets (sym (cell 1 q))
+says-meets (misses a ws) c q = absurd (omega (arith, cell 0 q))
+says-meets (unfinished b) c q = absurd (omega (arith, cell 0 q))
+says-meets (refused k place) c q = absurd (omega (arith, cell 0 q))
+
+says-misses : (x : Said.Verdict) (c n : ℕ) → verdictNumbers (Misses c n) ≡ numbers x → (ws : List Path) × (x ≡ misses c ws) × (n ≡ length (cellsOf ws))
+says-misses (meets a) c n q = absurd (omega (arith, cell 0 q))
+says-misses (misses a ws) c n q = (ws, ap (λ (k : ℕ). misses k ws) (sym (cell 1 q)), cell 2 q)
+says-misses (unfinished b) c n q = absurd (omega (arith, cell 0 q))
+says-misses (refused k place) c n q = absurd (omega (arith, cell 0 q))
+
+says-unfinished : (x : Said.Verdict) (n : ℕ) → verdictNumbers (Unfinished n) ≡ numbers x → x ≡ unfinished n
+says-unfinished (meets a) n q = absurd (omega (arith, cell 0 q))
+says-unfinished (misses a ws) n q = absurd (omega (arith, cell 0 q))
+says-unfinished (unfinished b) n q = ap unfinished (sym (cell 1 q))
+says-unfinished (refused k place) n q = absurd (omega (arith, cell 0 q))
+
+says-refused : (x : Said.Verdict) (at : RefusedAt) → verdictNumbers (Refused at) ≡ numbers x → (k n : ℕ) × (x ≡ refused k n)
+says-refused (meets a) at q = absurd (omega (arith, cell 0 q))
+says-refused (misses a ws) at q = absurd (omega (arith, cell 0 q))
+says-refused (unfinished b) at q = absurd (omega (arith, cell 0 q))
+says-refused (refused k place) at q = (k, place, refl)
+
+is-refused : (r : Verdict) (k n : ℕ) → verdictNumbers r ≡ numbers (refused k n) → (at : RefusedAt) × (r ≡ Refused at) × (refusalNumber (at .refusal) ≡ k) × (at .place ≡ n)
+is-refused (Meets c) k n q = absurd (omega (arith, cell 0 q))
+is-refused (Misses c m) k n q = absurd (omega (arith, cell 0 q))
+is-refused (Unfinished b) k n q = absurd (omega (arith, cell 0 q))
+is-refused (Refused at) k n q = (at, refl, cell 1 q, cell 2 q)
+
+-- ---- the demands
+
+module _ (text : List ℕ) (i v b : ℕ) (work wit : List ℕ) (r : Verdict) (work′ wit′ : List ℕ) (j : Judged text i v b work wit r work′ wit′) where
+  abbrev x : Said.Verdict
+  x = answer text i v b (length work) (length wit)
+
+  said : (s : Verdict) → r ≡ s → verdictNumbers s ≡ numbers x
+  said s q = ap verdictNumbers (sym q) ∙ j .verdict
+
+  written-paths : (c : ℕ) (ws : List Path) → x ≡ misses c ws → wit′ ≡ witnessAfter (misses c ws) wit
+  written-paths c ws q = j .paths ∙ ap (λ (y : Said.Verdict). witnessAfter y wit) q
+
+  unchanged : (at : RefusedAt) → r ≡ Refused at → (work′ ≡ work) × (wit′ ≡ wit)
+  unchanged at q =
+      let p = says-refused x at (said (Refused at) q) in
+      (j .cells ∙ ap (λ (y : Said.Verdict). workAfter y (needOf (read text) i v) work) (p .2), j .paths ∙ ap (λ (y : Said.Verdict). witnessAfter y wit) (p .2))
+
+  pub code-demand1 : Demand1 text i v b work wit r work′ wit′
+  code-demand1 =
+      record {
+        bad-table = λ k n q. is-refused r k n (j .verdict ∙ ap (λ (m : Reading). numbers (onReading m (λ (ts : Table). judged ts i v b (length work) (length wit)))) q);
+        unchanged = unchanged;
+      }
+
+  module _ (ts : Table) (q : read text ≡ readable ts) where
+    pub code-demand2 : Demand2 text ts i v b work wit r work′ wit′
+    code-demand2 =
+        record {
+          misses-only = λ c n e.
+              let p = says-misses x c n (said (Misses c n) e) in
+              let m = demand2 text ts q i v b (length work) (length wit) .misses-only c (p .0) (p .1) in
+              (m .0, (p .0, m .1, written-paths c (p .0) (p .1), p .2), m .2);
+          meets-only = λ c e. demand2 text ts q i v b (length work) (length wit) .meets-only c (says-meets x c (said (Meets c) e));
+        }
+
+    pub code-demand3 : Demand3 text ts i v b work wit r
+    code-demand3 =
+        record {
+          meets-lasts = λ c b₂ work₂ wit₂ work₂′ wit₂′ r₂ h hw hv j₂ e.
+              same-verdict r₂ (Meets c) (j₂ .verdict ∙ ap numbers (lasts b₂ work₂ wit₂ h hw hv (meets c) (says-meets x c (said (Meets c) e)) tt));
+          misses-lasts = λ c n b₂ work₂ wit₂ work₂′ wit₂′ r₂ h hw hv j₂ e.
+              let p = says-misses x c n (said (Misses c n) e) in
+              let y = lasts b₂ work₂ wit₂ h hw hv (misses c (p .0)) (p .1) tt in (
+                same-verdict r₂ (Misses c n) (j₂ .verdict ∙ ap numbers y ∙ ap (λ (m : ℕ). 1 ∷ c ∷ m ∷ []) (sym (p .2))),
+                (p .0, demand2 text ts q i v b (length work) (length wit) .misses-only c (p .0) (p .1) .1, j₂ .paths ∙ ap (λ (z : Said.Verdict). witnessAfter z wit₂) y),
+              );
+          unfinished-if = λ a h. same-verdict r (Unfinished b) (j .verdict ∙ ap numbers (demand3 text ts q i v .unfinished-if b (length work) (length wit) a h));
+          unfinished-only = λ n e. demand3 text ts q i v .unfinished-only b (length work) (length wit) n (says-unfinished x n (said (Unfinished n) e));
+          few = demand3 text ts q i v .few;
+        }
+      where
+        lasts : (b₂ : ℕ) (work₂ wit₂ : List ℕ) → b ≤ b₂ → length work ≤ length work₂ → length wit ≤ length wit₂ → (y : Said.Verdict) → x ≡ y → Given y
+            → answer text i v b₂ (length work₂) (length wit₂) ≡ y
+        lasts b₂ work₂ wit₂ h hw hv y e g = demand3 text ts q i v .lasting b b₂ (length work) (length work₂) (length wit) (length wit₂) h hw hv (subst Given (sym e) g) ∙ e
+
+pub settled : Settled
+settled text i v b work wit r s work₁ wit₁ work₂ wit₂ j k = (same-verdict r s (j .verdict ∙ sym (k .verdict)), j .cells ∙ sym (k .cells), j .paths ∙ sym (k .paths))

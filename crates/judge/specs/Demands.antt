@@ -1,0 +1,48 @@
+-- The customer's demands, said of the judging call: r is what `judge` answers and work′, wit′ are the areas as it returns. `proofs/Demands` proves each.
+-- That every call returns, whatever the bytes, numbers, budget and areas, is what the check of `judge` says: it has no `requires`. Assumes nothing.
+use mathlib.Core.Path.{_≡_}
+use Prim.Native.Nat.{ℕ, _-_, _*_, _≤_, _<_}
+use mathlib.Core.List.{List, map}
+use lib.ListN.{length}
+use Rattle.meaning.specs.Lists.{product}
+use Rattle.meaning.specs.Table.{Task, Table, higher}
+use Rattle.meaning.specs.Text.{unreadable, read}
+use Rattle.meaning.specs.Paths.{Path, pathsOf}
+use Rattle.meaning.specs.Verdict.{cellsOf, deadline}
+use Rattle.meaning.specs.Areas.{written}
+use Rattle.meaning.specs.Demands.{Overloadable, First, C, Admitted}
+use Rattle.kinds.specs.declared.RefusedAt.{RefusedAt}
+use Rattle.kinds.specs.declared.Verdict.{Verdict}
+use Rattle.kinds.specs.declared.Verdict.the-variants.{Meets, Misses, Unfinished, Refused}
+use Rattle.kinds.specs.Numbers.{refusalNumber}
+use Rattle.judge.specs.Judged.{Judged}
+
+-- "Any bytes, any vertex number, any budget and any lent areas get an answer. A bad table is refused at its first faulty line. A refusal changes
+-- nothing in the areas lent to it."
+pub record Demand1 (text : List ℕ) (i v b : ℕ) (work wit : List ℕ) (r : Verdict) (work′ wit′ : List ℕ) : Type 0 where
+  pub bad-table : (k n : ℕ) → read text ≡ unreadable k n → (at : RefusedAt) × (r ≡ Refused at) × (refusalNumber (at .refusal) ≡ k) × (at .place ≡ n)
+  pub unchanged : (at : RefusedAt) → r ≡ Refused at → (work′ ≡ work) × (wit′ ≡ wit)
+
+-- ""misses" is said only if some legal path from each of those tasks, of any length, together overload every tick up to the deadline [..]. The paths
+-- returned are the first such among document 01's complete paths, in its order. "Meets" is said only if there are none."
+pub record Demand2 (text : List ℕ) (ts : Table) (i v b : ℕ) (work wit : List ℕ) (r : Verdict) (work′ wit′ : List ℕ) : Type 0 where
+  pub misses-only : (c n : ℕ) → r ≡ Misses c n → Overloadable ts i v × ((ws : List Path) × First ts i v ws × (wit′ ≡ written (cellsOf ws) wit) × (n ≡ length (cellsOf ws))) × (c ≡ C ts i v)
+  pub meets-only : (c : ℕ) → r ≡ Meets c → (Overloadable ts i v → ⊥) × (c ≡ C ts i v)
+
+-- "For one table and vertex, a larger budget or larger areas never alter a "meets" or a "misses" once given, its paths or its count. When no refusal
+-- applies, "unfinished" is given exactly if the budget is below the number of groups that document 01's rule has to examine, and that number is at
+-- most twice the product of the tasks' path counts, less one."
+pub record Demand3 (text : List ℕ) (ts : Table) (i v b : ℕ) (work wit : List ℕ) (r : Verdict) : Type 0 where
+  pub meets-lasts : (c b₂ : ℕ) (work₂ wit₂ work₂′ wit₂′ : List ℕ) (r₂ : Verdict) → b ≤ b₂ → length work ≤ length work₂ → length wit ≤ length wit₂
+      → Judged text i v b₂ work₂ wit₂ r₂ work₂′ wit₂′ → r ≡ Meets c → r₂ ≡ Meets c
+  pub misses-lasts : (c n b₂ : ℕ) (work₂ wit₂ work₂′ wit₂′ : List ℕ) (r₂ : Verdict) → b ≤ b₂ → length work ≤ length work₂ → length wit ≤ length wit₂
+      → Judged text i v b₂ work₂ wit₂ r₂ work₂′ wit₂′ → r ≡ Misses c n
+      → (r₂ ≡ Misses c n) × ((ws : List Path) × First ts i v ws × (wit₂′ ≡ written (cellsOf ws) wit₂))
+  pub unfinished-if : Admitted ts i v (length work) (length wit) → b < C ts i v → r ≡ Unfinished b
+  pub unfinished-only : (n : ℕ) → r ≡ Unfinished n → b < C ts i v
+  pub few : C ts i v ≤ 2 * product (map (λ (k : Task). length (pathsOf k (deadline ts i v))) (higher ts i)) - 1
+
+-- What the statement settles: two results that satisfy it coincide, in the verdict and in every cell of both areas.
+abbrev pub Settled : Type 0
+Settled = (text : List ℕ) (i v b : ℕ) (work wit : List ℕ) (r s : Verdict) (work₁ wit₁ work₂ wit₂ : List ℕ)
+    → Judged text i v b work wit r work₁ wit₁ → Judged text i v b work wit s work₂ wit₂ → (r ≡ s) × (work₁ ≡ work₂) × (wit₁ ≡ wit₂)
