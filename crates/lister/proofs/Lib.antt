@@ -13,3 +13,4 @@ pub mod ByValue
 pub mod Readiness
 pub mod Following
 pub mod CountLoop
+pub mod Listing

@@ -119,7 +119,7 @@ module _ (d n : ℕ) (P A : List ℕ) (h : 1 < n) (lP : length P ≡ stretchCell
         let g = halves-lie d n (length P) h lP in
         omega (arith, length-append A (take d (drop (stretchCells d (n - n / 2)) P) ++ B), length-append (take d (drop (stretchCells d (n - n / 2)) P)) B, len-A, len-B, mid-len)
 
-    -- the leaves' rows in two
+    -- the single paths' rows in two
     singles-two : singleRows d n P ≡ singleRows d (n - n / 2) (take (stretchCells d (n - n / 2)) P) ++ singleRows d (n - (n - n / 2)) (drop (stretchCells d (n - n / 2) + d) P)
     singles-two =
         let z : n - n / 2 + (n - (n - n / 2)) ≡ n = omega arith in
