@@ -15,14 +15,14 @@ use std::io::{self, Write};
 
 /// The most cells of each area.
 const MOST_CELLS: (u32, u32) = (8_192, 1_500);
-/// More than any bench example needs.
+/// More than R1 to R9 need.
 const ENOUGH: (u32, u32) = (40, 20);
 /// The largest count that a random vertex may have.
 const LARGEST_COUNT: u32 = 3_000;
 /// How many random vertices of each verdict are judged whose count is 1, small, or above `SMALL_COUNT`.
 const RANDOM_VERTICES: [usize; 3] = [3, 8, 8];
 /// The largest count that is small.
-const SMALL_COUNT: u32 = 8;
+const SMALL_COUNT: u32 = 20;
 
 /// Writes each case.
 fn main() -> io::Result<()> {
@@ -88,7 +88,7 @@ fn case(text: &str, numbers: (u8, u8), budget: u32, lent: (u32, u32)) -> Case {
     }
 }
 
-/// R1 to R9.
+/// R1 to R11.
 fn bench(cases: &mut Vec<Case>) {
     for number in 0..3 {
         cases.push(case(&r1(2), (number, 0), 100_000, ENOUGH));
@@ -116,23 +116,26 @@ fn bench(cases: &mut Vec<Case>) {
             cases.push(case(&r7(), (1, 0), 100_000, (work, witness)));
         }
     }
-}
-
-/// R10, and refusal 9 in the order of tasks and of rows.
-fn many_paths(cases: &mut Vec<Case>) {
-    let below = |e, d| task(&[(e, d)], &[]);
     for (above, e, d) in [(4, 1, 21), (4, 20, 21), (4, 1, 31), (5, 1, 21), (5, 1, 20)] {
-        let text = text(&[r10(above), below(e, d)]);
+        let text = text(&[r10(above), task(&[(e, d)], &[])]);
         for lent in [MOST_CELLS, (0, 0)] {
             cases.push(case(&text, (1, 0), 100_000, lent));
         }
     }
+    for text in ["", "00\n", "00"] {
+        cases.push(case(text, (0, 0), 100_000, ENOUGH));
+    }
+}
+
+/// Refusal 9: the lowest-numbered task, and higher tasks only.
+fn many_paths(cases: &mut Vec<Case>) {
+    let below = task(&[(1, 31)], &[]);
     let few = self_edge(1, 5, 5);
     for tasks in [
-        [few.clone(), r10(4), below(1, 31)],
-        [r10(4), r10(4), below(1, 31)],
-        [r10(4), few.clone(), below(1, 31)],
-        [few, below(1, 31), r10(4)],
+        [few.clone(), r10(4), below.clone()],
+        [r10(4), r10(4), below.clone()],
+        [r10(4), few.clone(), below.clone()],
+        [few, below, r10(4)],
     ] {
         for number in 0..=3 {
             cases.push(case(&text(&tasks), (number, 0), 100_000, (200, 70)));
@@ -140,13 +143,11 @@ fn many_paths(cases: &mut Vec<Case>) {
     }
 }
 
-/// R11, and texts refused by each row from 1 to 7, whatever else is asked.
+/// Texts refused by each row from 1 to 7, whatever else is asked.
 fn texts(cases: &mut Vec<Case>) {
     let whole = self_edge(2, 5, 5);
     for text in [
         String::new(),
-        "00\n".to_owned(),
-        "00".to_owned(),
         whole.clone() + "0g\n",
         whole.clone() + "00",
         whole.clone() + "\n",
@@ -278,9 +279,10 @@ fn random(cases: &mut Vec<Case>) {
             .collect();
         let text = text(&tasks);
         let numbers = (tasks.len() as u8 - 1, 0);
-        let left = match needed(&text, numbers, LARGEST_COUNT).0 {
-            Verdict::Meets { count } => &mut meeting[size(count)],
-            Verdict::Misses { count, .. } => &mut missing[size(count)],
+        let left = match needed(&text, numbers, LARGEST_COUNT) {
+            (_, (work, _)) if work > MOST_CELLS.0 => continue,
+            (Verdict::Meets { count }, _) => &mut meeting[size(count)],
+            (Verdict::Misses { count, .. }, _) => &mut missing[size(count)],
             _ => continue,
         };
         if *left > 0 {
