@@ -2,7 +2,6 @@
 
 use crate::bounds::{BUDGET, INPUT_BYTES, WITNESS_CELLS, WORK_CELLS};
 use crate::bounds::{COUNTS_FRAME, END_FRAME, PATH_FRAME, REFUSED_FRAME, VERDICT_FRAME};
-use crate::bounds::{MEETS, MISSES, REFUSED, UNFINISHED};
 use crate::judge::{judge_vertex, Counts, Verdict};
 use crate::refusal::{Refusal, Row};
 use crate::table::{Table, TaskNo, VertexNo};
@@ -68,15 +67,9 @@ fn write_table(lines: &mut String, table: &Table) {
 
 /// Writes the frame of one vertex.
 fn write_verdict(lines: &mut String, task: TaskNo, vertex: VertexNo, verdict: &Verdict) {
-    let (kind, number) = match verdict {
-        Verdict::Meets { count } => (MEETS, *count),
-        Verdict::Misses { count, .. } => (MISSES, *count),
-        Verdict::Unfinished { budget } => (UNFINISHED, *budget),
-        Verdict::Refused(refusal) => (REFUSED, u32::from(refusal.number())),
-    };
-    let [n3, n2, n1, n0] = number.to_be_bytes();
-    let (task, vertex) = (byte(task.0), byte(vertex.0));
-    write_frame(lines, &[VERDICT_FRAME, task, vertex, kind, n3, n2, n1, n0]);
+    write_bytes(lines, &[VERDICT_FRAME, byte(task.0), byte(vertex.0)]);
+    write_bytes(lines, &[verdict.kind()]);
+    write_frame(lines, &verdict.value().to_be_bytes());
 }
 
 /// Writes one frame for each higher task of a missing vertex, from the witness area.
@@ -106,7 +99,7 @@ fn write_frame(lines: &mut String, frame: &[u8]) {
 }
 
 /// Writes bytes as lower case digits.
-fn write_bytes(lines: &mut String, bytes: &[u8]) {
+pub(crate) fn write_bytes(lines: &mut String, bytes: &[u8]) {
     const DIGITS: [char; 16] = [
         '0', '1', '2', '3', '4', '5', '6', '7', '8', '9', 'a', 'b', 'c', 'd', 'e', 'f',
     ];

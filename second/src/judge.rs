@@ -1,5 +1,6 @@
 //! The judge: one vertex, or the whole table.
 
+use crate::bounds::{MEETS, MISSES, REFUSED, UNFINISHED};
 use crate::bounds::{PATHS, WITNESS_CELLS};
 use crate::paths::{complete_paths, Path};
 use crate::refusal::{Refusal, Row};
@@ -29,6 +30,36 @@ pub enum Verdict {
     },
     /// The judge refuses, and no lent area is changed.
     Refused(Refusal),
+}
+
+impl Verdict {
+    /// The verdict byte.
+    pub fn kind(&self) -> u8 {
+        match self {
+            Verdict::Meets { .. } => MEETS,
+            Verdict::Misses { .. } => MISSES,
+            Verdict::Unfinished { .. } => UNFINISHED,
+            Verdict::Refused(_) => REFUSED,
+        }
+    }
+
+    /// The count, the budget or the refusal's number.
+    pub fn value(&self) -> u32 {
+        match self {
+            Verdict::Meets { count } | Verdict::Misses { count, .. } => *count,
+            Verdict::Unfinished { budget } => *budget,
+            Verdict::Refused(refusal) => u32::from(refusal.number()),
+        }
+    }
+
+    /// The witness cells written, what is returned with a refusal, else zero.
+    pub fn place(&self) -> usize {
+        match self {
+            Verdict::Meets { .. } | Verdict::Unfinished { .. } => 0,
+            Verdict::Misses { cells, .. } => *cells,
+            Verdict::Refused(refusal) => refusal.place,
+        }
+    }
 }
 
 /// How many vertices of a table meet, miss, are unfinished and are refused.

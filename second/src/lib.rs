@@ -6,6 +6,7 @@
 #![warn(missing_docs)]
 
 pub mod bounds;
+pub mod case;
 pub mod desk;
 pub mod judge;
 pub mod paths;

@@ -1,8 +1,10 @@
 //! The desk program: one input, or with the argument `many` a sequence of texts. With `check`, only the text check of each.
+//! With `judge`, one judging call for each case of a sequence.
 
 #![forbid(unsafe_code)]
 
 use second::bounds::INPUT_BYTES;
+use second::case::Case;
 use second::desk;
 use std::env;
 use std::io::{self, BufReader, BufWriter, Read, Write};
@@ -15,8 +17,9 @@ fn main() -> ExitCode {
         [] => one(),
         [argument] if argument == "many" => many(),
         [argument] if argument == "check" => check(),
+        [argument] if argument == "judge" => judge(),
         _ => {
-            complain("usage: second [many | check]");
+            complain("usage: second [many | check | judge]");
             return ExitCode::from(2);
         }
     };
@@ -65,23 +68,49 @@ fn check() -> io::Result<()> {
     target.flush()
 }
 
+/// Makes the judging call of each case of a sequence: a line for each.
+fn judge() -> io::Result<()> {
+    let mut source = BufReader::new(io::stdin().lock());
+    let mut target = BufWriter::new(io::stdout().lock());
+    while let Some(header) = next_header(&mut source)? {
+        let mut case = Case::headed(header);
+        let &[n3, n2, n1, n0, ..] = &header;
+        case.text = next_bytes(&mut source, [n3, n2, n1, n0])?;
+        target.write_all(case.judged().as_bytes())?;
+    }
+    target.flush()
+}
+
 /// The next text of the sequence, or none at its end.
 fn next_text(source: &mut impl Read) -> io::Result<Option<Vec<u8>>> {
-    let mut length = Vec::new();
-    source.by_ref().take(4).read_to_end(&mut length)?;
-    if length.is_empty() {
+    match next_header(source)? {
+        Some(length) => Ok(Some(next_bytes(source, length)?)),
+        None => Ok(None),
+    }
+}
+
+/// What precedes the next text, or none at the sequence's end.
+fn next_header<const N: usize>(source: &mut impl Read) -> io::Result<Option<[u8; N]>> {
+    let mut header = Vec::new();
+    source.take(N as u64).read_to_end(&mut header)?;
+    if header.is_empty() {
         return Ok(None);
     }
-    let &[n3, n2, n1, n0] = length.as_slice() else {
-        return Err(io::Error::other("the sequence ends inside a length"));
-    };
-    let length = u64::from(u32::from_be_bytes([n3, n2, n1, n0]));
+    match header.try_into() {
+        Ok(header) => Ok(Some(header)),
+        Err(_) => Err(io::Error::other("the sequence ends before a text")),
+    }
+}
+
+/// The text of this length.
+fn next_bytes(source: &mut impl Read, length: [u8; 4]) -> io::Result<Vec<u8>> {
+    let length = u64::from(u32::from_be_bytes(length));
     let mut text = Vec::new();
     source.take(length).read_to_end(&mut text)?;
     if (text.len() as u64) < length {
         return Err(io::Error::other("the sequence ends inside a text"));
     }
-    Ok(Some(text))
+    Ok(text)
 }
 
 /// Writes one line to standard error; there is nobody to tell if that fails.

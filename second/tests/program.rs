@@ -1,28 +1,12 @@
-//! The program itself: its three ways to run, and its exit statuses.
+//! The program itself: its ways to run, and its exit statuses.
 
 mod common;
 
-use common::{r1, text};
-use std::io::Write;
-use std::process::{Command, Output, Stdio};
+use common::{r1, run, text};
 
 /// R1's output.
 const R1_OUTPUT: &str = "1000000000000001\n1001000000000001\n1002000100000001\n\
                          1100020000\n11010100\n1f02010000\n";
-
-/// Runs the program with these arguments and this standard input.
-fn run(arguments: &[&str], input: &[u8]) -> Output {
-    let mut program = Command::new(env!("CARGO_BIN_EXE_second"))
-        .args(arguments)
-        .stdin(Stdio::piped())
-        .stdout(Stdio::piped())
-        .stderr(Stdio::piped())
-        .spawn()
-        .unwrap();
-    // A program that is used wrongly may end before it has read everything.
-    let _ = program.stdin.take().unwrap().write_all(input);
-    program.wait_with_output().unwrap()
-}
 
 /// Bytes preceded by their length in 4 bytes.
 fn with_length(bytes: &[u8]) -> Vec<u8> {
@@ -80,7 +64,7 @@ fn checked_texts() {
 
 #[test]
 fn no_texts() {
-    for mode in ["many", "check"] {
+    for mode in ["many", "check", "judge"] {
         let found = run(&[mode], b"");
         assert_eq!(found.status.code(), Some(0));
         assert!(found.stdout.is_empty() && found.stderr.is_empty());

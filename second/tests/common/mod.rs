@@ -1,4 +1,4 @@
-//! What the tests share: texts by hand, the document's definitions, and a pseudo-random generator.
+//! What the tests share: texts by hand, the document's definitions, a pseudo-random generator, and the program run.
 
 #![allow(dead_code)]
 
@@ -8,6 +8,8 @@ pub mod sheet;
 
 use second::judge::{judge, Verdict};
 use second::table::{TaskNo, VertexNo};
+use std::io::Write;
+use std::process::{Command, Output, Stdio};
 
 /// A task as the tests write it down.
 #[derive(Clone, Debug, Default, PartialEq, Eq)]
@@ -129,4 +131,18 @@ pub fn refusal(verdict: Verdict) -> Option<(u8, usize)> {
         Verdict::Refused(refusal) => Some((refusal.number(), refusal.place)),
         _ => None,
     }
+}
+
+/// Runs the program with these arguments and this standard input.
+pub fn run(arguments: &[&str], input: &[u8]) -> Output {
+    let mut program = Command::new(env!("CARGO_BIN_EXE_second"))
+        .args(arguments)
+        .stdin(Stdio::piped())
+        .stdout(Stdio::piped())
+        .stderr(Stdio::piped())
+        .spawn()
+        .unwrap();
+    // A program that is used wrongly may end before it has read everything.
+    let _ = program.stdin.take().unwrap().write_all(input);
+    program.wait_with_output().unwrap()
 }

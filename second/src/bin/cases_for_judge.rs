@@ -1,0 +1,317 @@
+//! Writes the cases that the judge is checked with: a sequence as `second judge` reads it.
+//!
+//! The bench examples, every refusal, and random tables with budgets and areas around what they need. The sequence is the same from run to run.
+
+#![forbid(unsafe_code)]
+
+mod made;
+
+use made::{edge_line, task, vertex_line, Random};
+use second::case::Case;
+use second::judge::{judge, Verdict};
+use second::refusal::{Refusal, Row};
+use second::table::{TaskNo, VertexNo};
+use std::io::{self, Write};
+
+/// The most cells of each area.
+const MOST_CELLS: (u32, u32) = (8_192, 1_500);
+/// More than R1 to R9 need.
+const ENOUGH: (u32, u32) = (40, 20);
+/// The largest count that a random vertex may have.
+const LARGEST_COUNT: u32 = 3_000;
+/// How many random vertices of each verdict are judged whose count is 1, small, or above `SMALL_COUNT`.
+const RANDOM_VERTICES: [usize; 3] = [3, 8, 8];
+/// The largest count that is small.
+const SMALL_COUNT: u32 = 20;
+
+/// Writes each case.
+fn main() -> io::Result<()> {
+    let mut cases = Vec::new();
+    bench(&mut cases);
+    many_paths(&mut cases);
+    texts(&mut cases);
+    numbers(&mut cases);
+    large(&mut cases);
+    random(&mut cases);
+    let mut target = io::stdout().lock();
+    for case in cases {
+        target.write_all(&case.bytes())?;
+    }
+    target.flush()
+}
+
+/// The text of these tasks.
+fn text(tasks: &[String]) -> String {
+    tasks.concat() + "00\n"
+}
+
+/// The lines of a self-edge task (e, d, p).
+fn self_edge(e: u32, d: u32, p: u32) -> String {
+    task(&[(e, d)], &[(0, 0, p)])
+}
+
+/// R1's text, with the last e.
+fn r1(last_e: u32) -> String {
+    text(&[
+        self_edge(2, 5, 5),
+        self_edge(2, 7, 7),
+        self_edge(last_e, 6, 7),
+    ])
+}
+
+/// R5's text, with the judged d.
+fn r5(d: u32) -> String {
+    text(&[task(&[(1, 5), (3, 5)], &[]), task(&[(2, d)], &[])])
+}
+
+/// R7's text.
+fn r7() -> String {
+    let above = task(&[(3, 10), (1, 2), (4, 10)], &[(1, 2, 2)]);
+    text(&[above, task(&[(1, 5)], &[])])
+}
+
+/// R10's task: four vertices and all 16 edges with p 10, then further vertices without edges.
+fn r10(vertices: usize) -> String {
+    let edges: Vec<_> = (0..16).map(|n| (n / 4, n % 4, 10)).collect();
+    task(&vec![(1, 10); vertices], &edges)
+}
+
+/// A case.
+fn case(text: &str, numbers: (u8, u8), budget: u32, lent: (u32, u32)) -> Case {
+    Case {
+        task: numbers.0,
+        vertex: numbers.1,
+        budget,
+        work: lent.0,
+        witness: lent.1,
+        text: text.into(),
+    }
+}
+
+/// R1 to R11.
+fn bench(cases: &mut Vec<Case>) {
+    for number in 0..3 {
+        cases.push(case(&r1(2), (number, 0), 100_000, ENOUGH));
+    }
+    cases.push(case(&r1(1), (2, 0), 100_000, ENOUGH));
+    for d in [5, 6] {
+        let below = task(&[(9, d)], &[]);
+        cases.push(case(&text(&[self_edge(2, 5, 5), below]), (1, 0), 1, ENOUGH));
+    }
+    cases.push(case(
+        &text(&[task(&[(3, 2)], &[])]),
+        (0, 0),
+        100_000,
+        ENOUGH,
+    ));
+    cases.push(case(&text(&[task(&[(3, 2)], &[])]), (0, 0), 1, (0, 0)));
+    for d in [5, 4] {
+        cases.push(case(&r5(d), (1, 0), 100_000, ENOUGH));
+    }
+    for budget in [100_000, 0, 4, 5, 6] {
+        cases.push(case(&r7(), (1, 0), budget, ENOUGH));
+    }
+    for work in [24, 25, 26] {
+        for witness in [5, 6, 7] {
+            cases.push(case(&r7(), (1, 0), 100_000, (work, witness)));
+        }
+    }
+    for (above, e, d) in [(4, 1, 21), (4, 20, 21), (4, 1, 31), (5, 1, 21), (5, 1, 20)] {
+        let text = text(&[r10(above), task(&[(e, d)], &[])]);
+        for lent in [MOST_CELLS, (0, 0)] {
+            cases.push(case(&text, (1, 0), 100_000, lent));
+        }
+    }
+    for text in ["", "00\n", "00"] {
+        cases.push(case(text, (0, 0), 100_000, ENOUGH));
+    }
+}
+
+/// Refusal 9: the lowest-numbered task, and higher tasks only.
+fn many_paths(cases: &mut Vec<Case>) {
+    let below = task(&[(1, 31)], &[]);
+    let few = self_edge(1, 5, 5);
+    for tasks in [
+        [few.clone(), r10(4), below.clone()],
+        [r10(4), r10(4), below.clone()],
+        [r10(4), few.clone(), below.clone()],
+        [few, below, r10(4)],
+    ] {
+        for number in 0..=3 {
+            cases.push(case(&text(&tasks), (number, 0), 100_000, (200, 70)));
+        }
+    }
+}
+
+/// Texts refused by each row from 1 to 7, whatever else is asked.
+fn texts(cases: &mut Vec<Case>) {
+    let whole = self_edge(2, 5, 5);
+    for text in [
+        String::new(),
+        whole.clone() + "0g\n",
+        whole.clone() + "00",
+        whole.clone() + "\n",
+        whole.clone() + &vertex_line(1, 1),
+        whole.clone() + "010d00\n",
+        whole.replace("0200020005", &vertex_line(1_001, 5)[..10]),
+        whole.replace("0300000005", &edge_line(0, 1, 5)[..10]),
+        self_edge(2, 5, 4) + "00\n",
+        task(&[(1, 5); 2], &[(1, 0, 5), (0, 1, 5)]) + "00\n",
+        whole.clone(),
+        whole.clone() + "010101\n",
+        whole.clone() + "00\n\n",
+        whole + "00\n00\n",
+    ] {
+        for (numbers, budget, lent) in [((0, 0), 100_000, ENOUGH), ((9, 9), 0, (0, 0))] {
+            cases.push(case(&text, numbers, budget, lent));
+        }
+    }
+}
+
+/// Refusal 8: no such task, no such vertex.
+fn numbers(cases: &mut Vec<Case>) {
+    for numbers in [
+        (3, 0),
+        (8, 0),
+        (255, 0),
+        (2, 1),
+        (0, 1),
+        (1, 12),
+        (2, 255),
+        (255, 255),
+    ] {
+        for (budget, lent) in [(100_000, ENOUGH), (0, (0, 0))] {
+            cases.push(case(&r1(2), numbers, budget, lent));
+        }
+    }
+    for vertex in 0..=3 {
+        cases.push(case(&r7(), (0, vertex), 1, ENOUGH));
+    }
+}
+
+/// The longest path, the longest witness, the whole work area, and a walk that sees every group.
+fn large(cases: &mut Vec<Case>) {
+    let longest = text(&[self_edge(1, 1, 1), task(&[(1, 200)], &[])]);
+    around(cases, &longest, (1, 0));
+    let mut tasks = vec![self_edge(1, 1, 1); 7];
+    tasks.push(task(&[(1, 200)], &[]));
+    around(cases, &text(&tasks), (7, 0));
+    let equal = |n: usize| task(&vec![(1, 10); n], &[]);
+    let mut tasks = vec![equal(8), equal(8), equal(9), equal(9)];
+    tasks.push(task(&[(1, 128)], &[]));
+    around(cases, &text(&tasks), (4, 0));
+    for n in [1, 2, 3] {
+        let mut tasks = vec![task(&vec![(1, 9); n], &[]); 4];
+        tasks.push(task(&[(3, 9), (1, 6), (4, 9)], &[(1, 2, 6)]));
+        tasks.push(task(&[(1, 9)], &[]));
+        around(cases, &text(&tasks), (5, 0));
+    }
+}
+
+/// What the judge says of a case.
+fn verdict(case: &Case) -> Verdict {
+    let (mut work, mut witness) = (vec![0; case.work as usize], vec![0; case.witness as usize]);
+    judge(
+        &case.text,
+        TaskNo(case.task.into()),
+        VertexNo(case.vertex.into()),
+        case.budget,
+        &mut work,
+        &mut witness,
+    )
+}
+
+/// The verdict on areas of just the cells that refusals 10 and 11 ask for, and those areas.
+fn needed(text: &str, numbers: (u8, u8), budget: u32) -> (Verdict, (u32, u32)) {
+    let mut lent = (0, 0);
+    loop {
+        let verdict = verdict(&case(text, numbers, budget, lent));
+        match verdict {
+            Verdict::Refused(Refusal {
+                row: Row::WorkArea,
+                place,
+            }) => lent.0 = place as u32,
+            Verdict::Refused(Refusal {
+                row: Row::WitnessArea,
+                place,
+            }) => lent.1 = place as u32,
+            _ => return (verdict, lent),
+        }
+    }
+}
+
+/// A vertex with budgets and areas around what it needs.
+fn around(cases: &mut Vec<Case>, text: &str, numbers: (u8, u8)) {
+    let (verdict, (work, witness)) = needed(text, numbers, u32::MAX);
+    let count = verdict.value();
+    let mut budgets = vec![0, count - 1, count, count + 1, u32::MAX];
+    budgets.dedup();
+    for budget in budgets {
+        push_within(cases, case(text, numbers, budget, (work, witness)));
+    }
+    for (work, witness) in [
+        (work.wrapping_sub(1), witness),
+        (work, witness.wrapping_sub(1)),
+        (work.wrapping_sub(1), witness.wrapping_sub(1)),
+        (work + 1, witness),
+        (work, witness + 1),
+        (work + 1, witness + 1),
+    ] {
+        push_within(cases, case(text, numbers, count, (work, witness)));
+    }
+}
+
+/// Adds a case unless its areas are too large; one cell less than none is.
+fn push_within(cases: &mut Vec<Case>, case: Case) {
+    if case.work <= MOST_CELLS.0 && case.witness <= MOST_CELLS.1 {
+        cases.push(case);
+    }
+}
+
+/// Vertices of random tables: as many that meet as that miss, few of them judged by the top group alone.
+fn random(cases: &mut Vec<Case>) {
+    let mut random = Random(20_261_116);
+    let mut meeting = RANDOM_VERTICES;
+    let mut missing = RANDOM_VERTICES;
+    while meeting.iter().chain(&missing).any(|&left| left > 0) {
+        let tasks: Vec<_> = (0..2 + random.below(4))
+            .map(|_| random_task(&mut random))
+            .collect();
+        let text = text(&tasks);
+        let numbers = (tasks.len() as u8 - 1, 0);
+        let left = match needed(&text, numbers, LARGEST_COUNT) {
+            (_, (work, _)) if work > MOST_CELLS.0 => continue,
+            (Verdict::Meets { count }, _) => &mut meeting[size(count)],
+            (Verdict::Misses { count, .. }, _) => &mut missing[size(count)],
+            _ => continue,
+        };
+        if *left > 0 {
+            *left -= 1;
+            around(cases, &text, numbers);
+        }
+    }
+}
+
+/// Which of the sizes of `RANDOM_VERTICES` a count has.
+fn size(count: u32) -> usize {
+    usize::from(count > 1) + usize::from(count > SMALL_COUNT)
+}
+
+/// The lines of a random valid task.
+fn random_task(random: &mut Random) -> String {
+    let count = 1 + random.below(4);
+    let mut vertices = Vec::new();
+    for _ in 0..count {
+        let e = 1 + random.below(6);
+        vertices.push((e as u32, 3 + random.below(22) as u32));
+    }
+    let mut edges = Vec::new();
+    for pair in 0..count * count {
+        if random.below(3) == 0 {
+            let (from, to) = (pair / count, pair % count);
+            let p = vertices[from].1 + random.below(8) as u32;
+            edges.push((from, to, p));
+        }
+    }
+    task(&vertices, &edges)
+}

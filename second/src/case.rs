@@ -1,0 +1,114 @@
+//! One judging call with all that is lent to it, and what it answers and leaves, as a line.
+
+use crate::desk::write_bytes;
+use crate::judge::judge;
+use crate::table::{TaskNo, VertexNo};
+
+/// The bytes of a case before its text: the text's length (4), task (1), vertex (1), budget (4), work cells (4) and witness cells (4).
+pub const HEADER_BYTES: usize = 18;
+
+/// The first work cell's mark; the next ones count on. No load is as large.
+const WORK_MARK: u32 = 0xa5a5_0000;
+/// The first witness cell's mark; the next ones count on. No length or vertex number is as large.
+const WITNESS_MARK: u16 = 0x5a00;
+
+/// A judging call.
+#[derive(Clone, Debug, PartialEq, Eq)]
+pub struct Case {
+    /// The task's number.
+    pub task: u8,
+    /// The vertex's number.
+    pub vertex: u8,
+    /// The budget.
+    pub budget: u32,
+    /// The cells of the work area.
+    pub work: u32,
+    /// The cells of the witness area.
+    pub witness: u32,
+    /// The text.
+    pub text: Vec<u8>,
+}
+
+impl Case {
+    /// The case of this header, its text still empty.
+    pub fn headed(header: [u8; HEADER_BYTES]) -> Case {
+        let number = |at: usize| {
+            header[at..at + 4]
+                .iter()
+                .fold(0, |n, &b| n << 8 | u32::from(b))
+        };
+        Case {
+            task: header[4],
+            vertex: header[5],
+            budget: number(6),
+            work: number(10),
+            witness: number(14),
+            text: Vec::new(),
+        }
+    }
+
+    /// The case's header and text.
+    pub fn bytes(&self) -> Vec<u8> {
+        // A text is far shorter than 4 bytes can count.
+        let mut bytes = (self.text.len() as u32).to_be_bytes().to_vec();
+        bytes.extend([self.task, self.vertex]);
+        for number in [self.budget, self.work, self.witness] {
+            bytes.extend(number.to_be_bytes());
+        }
+        bytes.extend(&self.text);
+        bytes
+    }
+
+    /// Makes the call on marked areas: a line with the verdict and what both areas hold after it.
+    ///
+    /// The verdict byte; the count, budget or refusal number (4 bytes); the cells or place (4); then the two areas.
+    pub fn judged(&self) -> String {
+        let mut work: Vec<u32> = (WORK_MARK..).take(self.work as usize).collect();
+        let mut witness: Vec<u16> = (WITNESS_MARK..).take(self.witness as usize).collect();
+        let verdict = judge(
+            &self.text,
+            TaskNo(u16::from(self.task)),
+            VertexNo(u16::from(self.vertex)),
+            self.budget,
+            &mut work,
+            &mut witness,
+        );
+        let mut line = String::new();
+        write_bytes(&mut line, &[verdict.kind()]);
+        write_bytes(&mut line, &verdict.value().to_be_bytes());
+        write_number(&mut line, verdict.place());
+        write_work(&mut line, &work);
+        write_witness(&mut line, &witness);
+        line.push('\n');
+        line
+    }
+}
+
+/// Writes the zeros at the work area's front (4 bytes), and 1 if all cells behind them hold their marks.
+fn write_work(line: &mut String, work: &[u32]) {
+    let front = work.iter().take_while(|&&cell| cell == 0).count();
+    write_number(line, front);
+    let kept = (WORK_MARK..)
+        .zip(work)
+        .skip(front)
+        .all(|(mark, &cell)| cell == mark);
+    write_bytes(line, &[u8::from(kept)]);
+}
+
+/// Writes the cells before the witness area's first that holds its mark (4 bytes), 1 if all cells behind them hold theirs, and those cells (2 each).
+fn write_witness(line: &mut String, witness: &[u16]) {
+    let marked = || (WITNESS_MARK..).zip(witness);
+    let front = marked().take_while(|&(mark, &cell)| cell != mark).count();
+    write_number(line, front);
+    let kept = marked().skip(front).all(|(mark, &cell)| cell == mark);
+    write_bytes(line, &[u8::from(kept)]);
+    for cell in &witness[..front] {
+        write_bytes(line, &cell.to_be_bytes());
+    }
+}
+
+/// Writes a number of cells or a place in 4 bytes.
+fn write_number(line: &mut String, number: usize) {
+    // Areas and texts are far shorter than 4 bytes can count.
+    write_bytes(line, &(number as u32).to_be_bytes());
+}

@@ -1,0 +1,184 @@
+//! The cases that the judge is checked with, and their lines.
+
+mod common;
+
+use common::{r1, r5, run, text};
+use second::case::{Case, HEADER_BYTES};
+use std::process::Command;
+
+/// The sequence of cases.
+fn sequence() -> Vec<u8> {
+    let generator = Command::new(env!("CARGO_BIN_EXE_cases_for_judge")).output();
+    generator.unwrap().stdout
+}
+
+/// The cases of a sequence.
+fn cases(sequence: &[u8]) -> Vec<Case> {
+    let mut cases = Vec::new();
+    let mut rest = sequence;
+    while let Some((header, behind)) = rest.split_first_chunk::<HEADER_BYTES>() {
+        let length = u32::from_be_bytes([header[0], header[1], header[2], header[3]]);
+        let (text, next) = behind.split_at(length as usize);
+        let mut case = Case::headed(*header);
+        case.text = text.to_vec();
+        cases.push(case);
+        rest = next;
+    }
+    assert!(rest.is_empty());
+    cases
+}
+
+/// A verdict's line: its three numbers, the zeroed work cells, and the witness cells; all else is unchanged.
+fn line(verdict: (u8, u32, u32), zeroed: u32, witness: &[u16]) -> String {
+    let (kind, value, place) = verdict;
+    let written = witness.len();
+    let cells: String = witness.iter().map(|cell| format!("{cell:04x}")).collect();
+    format!("{kind:02x}{value:08x}{place:08x}{zeroed:08x}01{written:08x}01{cells}\n")
+}
+
+/// The line of meets with this count.
+fn meets(count: u32, zeroed: u32) -> String {
+    line((0, count, 0), zeroed, &[])
+}
+
+/// The line of misses with this count and these witness cells.
+fn misses(count: u32, zeroed: u32, witness: &[u16]) -> String {
+    line((1, count, witness.len() as u32), zeroed, witness)
+}
+
+/// The line of unfinished with this budget.
+fn unfinished(budget: u32, zeroed: u32) -> String {
+    line((2, budget, 0), zeroed, &[])
+}
+
+/// The line of a refusal's number and place.
+fn refused(number: u32, place: u32) -> String {
+    line((3, number, place), 0, &[])
+}
+
+/// The lines of R1 to R11, by the document's numbers; work cells are d x the sum of (2 x paths - 1).
+fn bench() -> Vec<String> {
+    let mut lines = vec![
+        // R1: the third task's witness is (0,0) of the first task and (0) of the second.
+        meets(1, 0),
+        meets(1, 7),
+        misses(1, 6 * (1 + 1), &[2, 0, 0, 1, 0]),
+        // R2
+        meets(1, 6 * (1 + 1)),
+        // R3, below it a vertex that always misses: horizon 5 has path (0), horizon 6 has (0,0).
+        misses(1, 5, &[1, 0]),
+        misses(1, 6, &[2, 0, 0]),
+        // R4, with cells to spare and with none
+        misses(1, 0, &[]),
+        misses(1, 0, &[]),
+        // R5, R6
+        meets(1, 5 * 3),
+        misses(3, 4 * 3, &[1, 1]),
+        // R7
+        meets(5, 25),
+        // R8
+        unfinished(0, 25),
+        unfinished(4, 25),
+        meets(5, 25),
+        meets(5, 25),
+    ];
+    // R9: 24, 25 and 26 work cells, each with 5, 6 and 7 witness cells.
+    lines.extend([refused(10, 25), refused(10, 25), refused(10, 25)]);
+    lines.extend([refused(11, 6), meets(5, 25), meets(5, 25)]);
+    lines.extend([refused(11, 6), meets(5, 25), meets(5, 25)]);
+    // R10, each with cells to spare and with none. At tick 2 the top group has 1 + 1; e 20 overloads with every path, so that
+    // 64, 32, 16, 8, 4, 2 and 1 of them are examined. A fifth vertex at horizon 20 makes 4 x 4 + 1 paths.
+    lines.extend([meets(1, 21 * 127), refused(10, 21 * 127)]);
+    lines.extend([misses(7, 21 * 127, &[3, 0, 0, 0]), refused(10, 21 * 127)]);
+    lines.extend([refused(9, 0), refused(9, 0)]);
+    lines.extend([refused(9, 0), refused(9, 0)]);
+    lines.extend([meets(1, 20 * 33), refused(10, 20 * 33)]);
+    // R11
+    lines.extend([refused(6, 1), refused(2, 1), refused(1, 1)]);
+    lines
+}
+
+#[test]
+fn the_bench_by_the_documents_numbers() {
+    let found = run(&["judge"], &sequence());
+    let found = String::from_utf8(found.stdout).unwrap();
+    let lines: Vec<_> = found.split_inclusive('\n').collect();
+    let bench = bench();
+    assert_eq!(lines[..bench.len()], bench);
+}
+
+#[test]
+fn a_line_for_each_case() {
+    let sequence = sequence();
+    let cases = cases(&sequence);
+    let bytes: Vec<u8> = cases.iter().flat_map(Case::bytes).collect();
+    assert_eq!(bytes, sequence);
+    let lines: String = cases.iter().map(Case::judged).collect();
+    let found = run(&["judge"], &sequence);
+    assert_eq!(found.status.code(), Some(0));
+    assert_eq!(found.stdout, lines.as_bytes());
+    assert!(found.stderr.is_empty());
+}
+
+#[test]
+fn every_verdict_and_every_refusal_is_there() {
+    let lines: Vec<_> = cases(&sequence()).iter().map(Case::judged).collect();
+    for kind in ["00", "01", "02"] {
+        let of_kind = lines.iter().filter(|line| line.starts_with(kind));
+        assert!(of_kind.count() > 50);
+    }
+    for number in 1..=11 {
+        let refusal = format!("03{number:08x}");
+        assert!(lines.iter().any(|line| line.starts_with(&refusal)));
+    }
+}
+
+#[test]
+fn areas_are_within_what_the_checked_program_lends() {
+    for case in cases(&sequence()) {
+        assert!(case.work <= 8_192 && case.witness <= 1_500);
+    }
+    assert!(sequence().len() <= 262_144);
+}
+
+#[test]
+fn a_header_high_byte_first() {
+    let case = Case {
+        task: 1,
+        vertex: 2,
+        budget: 0x0304_0506,
+        work: 0x0708,
+        witness: 0x090a,
+        text: text(&r5(4)).into_bytes(),
+    };
+    let bytes = case.bytes();
+    let header = *bytes.first_chunk().unwrap();
+    // The text's lines have 7, 11, 11, 7, 11 and 3 bytes.
+    let numbers = [0, 0, 0, 50, 1, 2, 3, 4, 5, 6, 0, 0, 7, 8, 0, 0, 9, 10];
+    assert_eq!(header, numbers);
+    assert_eq!(bytes[HEADER_BYTES..], case.text);
+    let text = Vec::new();
+    assert_eq!(Case::headed(header), Case { text, ..case });
+}
+
+#[test]
+fn a_broken_sequence_of_cases() {
+    let whole = Case {
+        task: 2,
+        vertex: 0,
+        budget: 1,
+        work: 12,
+        witness: 14,
+        text: text(&r1(2)).into_bytes(),
+    };
+    let (line, whole) = (whole.judged(), whole.bytes());
+    assert_eq!(run(&["judge"], &whole).stdout, line.as_bytes());
+    for end in 1..whole.len() {
+        let broken = &whole[..end];
+        for sequence in [broken.to_vec(), [&whole, broken].concat()] {
+            let found = run(&["judge"], &sequence);
+            assert_eq!(found.status.code(), Some(1));
+            assert!(!found.stderr.is_empty());
+        }
+    }
+}
