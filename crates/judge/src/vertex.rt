@@ -94,10 +94,10 @@ pub(crate) fn judge_vertex(
     }
     let d = job.d.0 as usize;
     let need = above.rows * d;
+    let cells = h * (1 + d);
     if work.len() < need {
         return refused(Refusal::WorkTooShort, need as u32);
     }
-    let cells = h * (1 + d);
     if witness.len() < cells {
         return refused(Refusal::WitnessTooShort, cells as u32);
     }

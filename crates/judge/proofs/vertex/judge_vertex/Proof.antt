@@ -53,6 +53,12 @@ cast-d c = search needs
 mul-need : tie.Need-mul-need
 mul-need c = omega (arith, need-small (c .before .before .before .before .before .before .before .before .before .before .before .before .args .t1) (c .before .before .before .before .before .before .before .before .before .before .before .before .pre) ((c .before .before .before .before .before .before .before .before .before .before .before .before .args .task) .0) ((c .before .before .before .before .before .before .before .before .before .before .before .before .args .vertex) .0) (c .before .before .before .before .before .before .before .before .before .before .before .before .args .budget) (c .before .before .before .before .before .before .before .before .before .before .before .before .args .work .now) (c .before .before .before .before .before .before .before .before .before .before .before .before .args .witness .now) (c .before .before .before .before .before .before .before .before .if1 .left) (c .before .before .before .before .before .if2 .left) (c .before .before .before .count-above .result) (c .before .before .before .count-above .ensures))
 
+add-cells : tie.Need-add-cells
+add-cells c = search needs
+
+mul-cells : tie.Need-mul-cells
+mul-cells c = omega (arith, cells-small (c .before .before .before .before .before .before .before .before .before .before .before .before .args .t1) (c .before .before .before .before .before .before .before .before .before .before .before .before .pre) ((c .before .before .before .before .before .before .before .before .before .before .before .before .args .task) .0) ((c .before .before .before .before .before .before .before .before .before .before .before .before .args .vertex) .0) (c .before .before .before .before .before .before .before .before .before .before .before .before .args .budget) (c .before .before .before .before .before .before .before .before .before .before .before .before .args .work .now) (c .before .before .before .before .before .before .before .before .before .before .before .before .args .witness .now) (c .before .before .before .before .before .before .before .before .if1 .left) (c .before .before .before .before .before .if2 .left) (c .before .before .before .count-above .result) (c .before .before .before .count-above .ensures))
+
 cast-refused-2 : tie.Need-cast-refused-2
 cast-refused-2 c = omega (arith, need-small (c .before .before .before .before .before .before .before .before .before .before .before .before .before .args .t1) (c .before .before .before .before .before .before .before .before .before .before .before .before .before .pre) ((c .before .before .before .before .before .before .before .before .before .before .before .before .before .args .task) .0) ((c .before .before .before .before .before .before .before .before .before .before .before .before .before .args .vertex) .0) (c .before .before .before .before .before .before .before .before .before .before .before .before .before .args .budget) (c .before .before .before .before .before .before .before .before .before .before .before .before .before .args .work .now) (c .before .before .before .before .before .before .before .before .before .before .before .before .before .args .witness .now) (c .before .before .before .before .before .before .before .before .before .if1 .left) (c .before .before .before .before .before .before .if2 .left) (c .before .before .before .before .count-above .result) (c .before .before .before .before .count-above .ensures))
 
@@ -61,12 +67,6 @@ refused-requires-4 c κs = search needs
 
 returns-4 : tie.Need-returns-4
 returns-4 c = answer-10 (c .before .before .before .before .before .before .before .before .before .before .before .before .before .before .args .t1) (c .before .before .before .before .before .before .before .before .before .before .before .before .before .before .pre) ((c .before .before .before .before .before .before .before .before .before .before .before .before .before .before .args .task) .0) ((c .before .before .before .before .before .before .before .before .before .before .before .before .before .before .args .vertex) .0) (c .before .before .before .before .before .before .before .before .before .before .before .before .before .before .args .budget) (c .before .before .before .before .before .before .before .before .before .before .before .before .before .before .args .work .now) (c .before .before .before .before .before .before .before .before .before .before .before .before .before .before .args .witness .now) (c .before .before .before .before .before .before .before .before .before .before .if1 .left) (c .before .before .before .before .before .before .before .if2 .left) (c .before .before .before .before .before .count-above .result) (c .before .before .before .before .before .count-above .ensures) (c .before .before .before .before .if3 .left) (c .before .if4 .taken) (c .refused4 .ensures)
-
-add-cells : tie.Need-add-cells
-add-cells c = search needs
-
-mul-cells : tie.Need-mul-cells
-mul-cells c = omega (arith, cells-small (c .before .before .before .before .before .before .before .before .before .before .before .before .before .args .t1) (c .before .before .before .before .before .before .before .before .before .before .before .before .before .pre) ((c .before .before .before .before .before .before .before .before .before .before .before .before .before .args .task) .0) ((c .before .before .before .before .before .before .before .before .before .before .before .before .before .args .vertex) .0) (c .before .before .before .before .before .before .before .before .before .before .before .before .before .args .budget) (c .before .before .before .before .before .before .before .before .before .before .before .before .before .args .work .now) (c .before .before .before .before .before .before .before .before .before .before .before .before .before .args .witness .now) (c .before .before .before .before .before .before .before .before .before .if1 .left) (c .before .before .before .before .before .before .if2 .left) (c .before .before .before .before .count-above .result) (c .before .before .before .before .count-above .ensures))
 
 cast-refused-3 : tie.Need-cast-refused-3
 cast-refused-3 c = omega (arith, cells-small (c .before .before .before .before .before .before .before .before .before .before .before .before .before .before .args .t1) (c .before .before .before .before .before .before .before .before .before .before .before .before .before .before .pre) ((c .before .before .before .before .before .before .before .before .before .before .before .before .before .before .args .task) .0) ((c .before .before .before .before .before .before .before .before .before .before .before .before .before .before .args .vertex) .0) (c .before .before .before .before .before .before .before .before .before .before .before .before .before .before .args .budget) (c .before .before .before .before .before .before .before .before .before .before .before .before .before .before .args .work .now) (c .before .before .before .before .before .before .before .before .before .before .before .before .before .before .args .witness .now) (c .before .before .before .before .before .before .before .before .before .before .if1 .left) (c .before .before .before .before .before .before .before .if2 .left) (c .before .before .before .before .before .count-above .result) (c .before .before .before .before .before .count-above .ensures))
@@ -109,11 +109,11 @@ judge-vertex-spec =
     returns-3
     cast-d
     mul-need
+    add-cells
+    mul-cells
     cast-refused-2
     refused-requires-4
     returns-4
-    add-cells
-    mul-cells
     cast-refused-3
     refused-requires-5
     returns-5
