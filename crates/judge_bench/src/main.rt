@@ -74,9 +74,9 @@ fn judge_in(header: &[u8], text: &[u8], work: &mut [u32], witness: &mut [u16])
 fn judge_case(header: &[u8], text: &[u8])
     requires { ⌜ length (now header) ≡ 18 ⌝ }
 {
-    let mut work = [0u32; 8192];
+    let mut work = [0u32; 32768];
     let mut witness = [0u16; 1500];
-    let work_cells = least(number(header, 10), 8192);
+    let work_cells = least(number(header, 10), 32768);
     let witness_cells = least(number(header, 14), 1500);
     judge_in(
         header,
