@@ -5,7 +5,7 @@ ghost use Prim.Native.Nat.{_≤_};
 ghost use lib.ListN.{length};
 
 fn work_mark(i: usize) -> u32 {
-    0xa5a50000 + (i % 32768) as u32
+    0xa5a50000 + (i % 180000) as u32
 }
 
 fn witness_mark(i: usize) -> u16 {

@@ -71,13 +71,12 @@ fn judge_in(header: &[u8], text: &[u8], work: &mut [u32], witness: &mut [u16])
     io::write_all(1, b"\n");
 }
 
-fn judge_case(header: &[u8], text: &[u8])
+// A case that asks for more cells than there are gets all of them.
+fn judge_case(header: &[u8], text: &[u8], work: &mut [u32], witness: &mut [u16])
     requires { ⌜ length (now header) ≡ 18 ⌝ }
 {
-    let mut work = [0u32; 32768];
-    let mut witness = [0u16; 1500];
-    let work_cells = least(number(header, 10), 32768);
-    let witness_cells = least(number(header, 14), 1500);
+    let work_cells = least(number(header, 10), work.len());
+    let witness_cells = least(number(header, 14), witness.len());
     judge_in(
         header,
         text,
@@ -86,18 +85,20 @@ fn judge_case(header: &[u8], text: &[u8])
     );
 }
 
-fn judge_all(bytes: &[u8]) {
+fn judge_all(bytes: &[u8], work: &mut [u32], witness: &mut [u16]) {
     let mut at = 0;
     while HEADER_BYTES <= bytes.len() - at {
         let end = text_end(bytes, at);
         let from = at + HEADER_BYTES;
-        judge_case(&bytes[at..from], &bytes[from..end]);
+        judge_case(&bytes[at..from], &bytes[from..end], work, witness);
         at = end;
     }
 }
 
 fn main() {
     let mut bytes = [0u8; 262144];
+    let mut work = [0u32; 180000];
+    let mut witness = [0u16; 1500];
     let n = io::read_full(0, &mut bytes);
-    judge_all(&bytes[..n]);
+    judge_all(&bytes[..n], &mut work, &mut witness);
 }

@@ -16,20 +16,26 @@ number-requires-2 c κs = search needs
 least-requires-2 : tie.Need-least-requires-2
 least-requires-2 c κs = search needs
 
-array-borrow-prefix-work : tie.Need-array-borrow-prefix-work
-array-borrow-prefix-work c = search needs
+slice-relend-prefix-judge-in : tie.Need-slice-relend-prefix-judge-in
+slice-relend-prefix-judge-in c = search needs
 
 slice-aggregate-judge-in : tie.Need-slice-aggregate-judge-in
 slice-aggregate-judge-in c = sym (length-take-le _ _ (c .before .before .before .least .ensures))
 
-array-borrow-prefix-witness : tie.Need-array-borrow-prefix-witness
-array-borrow-prefix-witness c = search needs
+slice-relend-prefix-judge-in-2 : tie.Need-slice-relend-prefix-judge-in-2
+slice-relend-prefix-judge-in-2 c = search needs
 
 slice-aggregate-judge-in-2 : tie.Need-slice-aggregate-judge-in-2
 slice-aggregate-judge-in-2 c = sym (length-take-le _ _ (c .before .before .least2 .ensures))
 
 judge-in-requires : tie.Need-judge-in-requires
 judge-in-requires c κs = search needs
+
+same-length : tie.Need-same-length
+same-length c = search needs
+
+same-length-2 : tie.Need-same-length-2
+same-length-2 c = search needs
 
 returns : tie.Need-returns
 returns c = search needs
@@ -42,9 +48,11 @@ judge-case-spec =
     least-requires
     number-requires-2
     least-requires-2
-    array-borrow-prefix-work
+    slice-relend-prefix-judge-in
     slice-aggregate-judge-in
-    array-borrow-prefix-witness
+    slice-relend-prefix-judge-in-2
     slice-aggregate-judge-in-2
     judge-in-requires
+    same-length
+    same-length-2
     returns)
