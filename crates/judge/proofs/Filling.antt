@@ -4,7 +4,7 @@ use Prim.Native.Nat.{ℕ, zero, suc, _+_, _-_, _*_, _≤_, _<_}
 use native.Mathlib.Omega.{arith}
 use native.Mathlib.Nat.{le-trans, le-of-eq, mul-le-mul-right, add-mul, zero-mul}
 use native.Mathlib.Numerals.{add-one}
-use mathlib.Core.List.{List, [], _∷_, _++_, map, append-assoc, append-nil, List·Memᴰ·head, List·Memᴰ·tail}
+use mathlib.Core.List.{List, [], _∷_, _++_, append-assoc, append-nil, List·Memᴰ·head, List·Memᴰ·tail}
 use lib.ListN.{length, take, drop, getD, length-append, length-drop}
 use lib.Seq.{getD-take, take-suc, take-at, drop-at, drop-drop, take-all, length-take-le}
 use Rattle.meaning.specs.Bounds.{mostPaths, largestD}
@@ -21,6 +21,7 @@ use Rattle.lister.specs.Columns.{Ready}
 use Rattle.table.specs.declared.Task.{Task}
 use Rattle.table.specs.declared.Table.{Table}
 use Rattle.table.specs.Record.{tableOf, taskOf}
+use Rattle.ranges.proofs.WholeStretch.{take-map}
 use Rattle.judge.specs.declared.above.Above.{Above}
 use Rattle.judge.specs.Above.{Held, pathCounts, rowsIn, Counted}
 use Rattle.judge.specs.Stretches.{stretches}
@@ -59,11 +60,6 @@ unfolding rowsIn
 rows-take zero ns = omega arith
 rows-take (suc j) [] = omega arith
 rows-take (suc j) (n ∷ ns) = omega (arith, rows-take j ns)
-
-take-map : {X Y : Type 0} (f : X → Y) (n : ℕ) (xs : List X) → take n (map f xs) ≡ map f (take n xs)
-take-map f zero xs = refl
-take-map f (suc n) [] = refl
-take-map {Y = Y} f (suc n) (x ∷ xs) = ap (λ (ys : List Y). f x ∷ ys) (take-map f n xs)
 
 pub stretches-size : (xs : List Meant.Task) (d : ℕ) → AllSound xs → length (stretches xs d) ≡ rowsIn (pathCounts xs d) * d
 unfolding rowsIn

@@ -12,7 +12,7 @@ fn witness_mark(i: usize) -> u16 {
     0x5a00 + (i % 1500) as u16
 }
 
-pub fn mark_work(work: &mut [u32]) {
+pub(crate) fn mark_work(work: &mut [u32]) {
     let mut i = 0;
     while i < work.len() {
         work[i] = work_mark(i);
@@ -20,7 +20,7 @@ pub fn mark_work(work: &mut [u32]) {
     }
 }
 
-pub fn mark_witness(witness: &mut [u16]) {
+pub(crate) fn mark_witness(witness: &mut [u16]) {
     let mut i = 0;
     while i < witness.len() {
         witness[i] = witness_mark(i);
@@ -89,13 +89,13 @@ fn print_cells(cells: &[u16]) {
     }
 }
 
-pub fn print_work(work: &[u32]) {
+pub(crate) fn print_work(work: &[u32]) {
     let n = zeros(work);
     io::print_hex(1, n as u64, 8);
     io::print_hex(1, work_kept(work, n), 2);
 }
 
-pub fn print_witness(witness: &[u16]) {
+pub(crate) fn print_witness(witness: &[u16]) {
     let n = written(witness);
     io::print_hex(1, n as u64, 8);
     io::print_hex(1, witness_kept(witness, n), 2);

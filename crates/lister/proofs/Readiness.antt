@@ -1,25 +1,21 @@
 -- The record of a sound task is ready to be listed. Assumes nothing.
 use mathlib.Core.Path.{_≡_, sym, ap, subst, _∙_}
 use mathlib.Core.Logic.{inl, inr}
-use Prim.Native.Nat.{ℕ, zero, suc, _-_, _≤_, _<_}
+use Prim.Native.Nat.{ℕ, zero, suc, _≤_, _<_}
 use native.Mathlib.Omega.{arith}
 use native.Mathlib.Decide.{ℕ-discrete}
 use mathlib.Core.List.{List, [], _∷_, map}
-use lib.ListN.{length, getD, replicate, length-append, length-map, length-replicate, List·getD-map}
+use lib.ListN.{length, getD, length-map, List·getD-map}
 use Rattle.meaning.specs.Lists.{Rising}
 use Rattle.meaning.specs.Bounds.{mostVertices, mostEdges}
 use Rattle.meaning.specs.Table as Meant
 use Rattle.meaning.specs.Sound.{SoundTask, EdgeBefore}
 use Rattle.meaning.proofs.Lists.{mem-getD}
 use Rattle.table.specs.declared.Task.{Task}
-use Rattle.table.specs.Record.{padded, noVertex, noEdge, vertexRecord, edgeRecord, taskRecord}
-use Rattle.table.proofs.Record.{getD-padded}
+use Rattle.table.specs.Record.{noVertex, noEdge, vertexRecord, edgeRecord, taskRecord}
+use Rattle.table.proofs.Record.{getD-padded, length-padded}
 use Rattle.lister.specs.Columns.{edge, Ready}
 use Rattle.lister.proofs.TaskColumns.{noMeantEdge}
-
-length-padded : {X : Type 0} (n : ℕ) (z : X) (xs : List X) → length xs ≤ n → length (padded n z xs) ≡ n
-unfolding padded
-length-padded n z xs h = omega (arith, length-append xs (replicate (n - length xs) z), length-replicate (n - length xs) z)
 
 rising-at : {X : Type 0} (R : X → X → Type 0) (z : X) (xs : List X) → Rising R xs → (i j : ℕ) → i < j → j < length xs → R (getD xs i z) (getD xs j z)
 rising-at R z [] r i j h l = absurd (omega arith)

@@ -8,10 +8,11 @@ use lib.ListN.{length, take, drop, length-append, length-drop, drop-of-length-le
 use lib.Seq.{sets, sets-eq, length-take-le, take-at, drop-at, take-take, take-append-le, take-all, drop-drop, drop-append-add, take-append-add, drop-append-le}
 use borrow.Rule.Slice.PartMut.{putMid}
 use Rattle.meaning.specs.Groups.{half, firstPart, secondPart}
+use Rattle.meaning.proofs.Lists.{drop-take}
 use Rattle.ranges.specs.Stretch.{largerCells, largestRow, stretchCells, singleRows, inOrder}
 use Rattle.rows.specs.Order.{topRow}
 use Rattle.ranges.proofs.LargerCells.{larger-zeros, length-largest, largest-append, pairLarger}
-use Rattle.ranges.proofs.Rows.{cells-sum, drop-take, inOrder-one, inOrder-two, order-fuel, order-length, order-row, top-fits}
+use Rattle.ranges.proofs.Rows.{cells-sum, inOrder-one, inOrder-two, order-fuel, order-length, order-row, top-fits}
 
 pub single-count : (d n : ℕ) (P : List ℕ) → length (singleRows d n P) ≡ n
 single-count d zero P = refl

@@ -12,9 +12,10 @@ use Rattle.meaning.specs.Paths.{Path, load, pathsOf}
 use Rattle.meaning.specs.Groups.{half, firstPart, secondPart, rangeLoad}
 use Rattle.meaning.specs.Verdict.{Listed, loadOf, listed}
 use Rattle.lister.proofs.PathsAreWays.{map-map}
+use Rattle.meaning.proofs.Lists.{drop-take}
 use Rattle.ranges.specs.Stretch.{stretchCells, inOrder, rangeRow, stretchOf}
 use Rattle.rows.specs.Order.{topRow, Node, top, low, high}
-use Rattle.ranges.proofs.Rows.{inOrder-two, first-length, second-length, order-length, order-row, drop-take}
+use Rattle.ranges.proofs.Rows.{inOrder-two, first-length, second-length, order-length, order-row}
 use Rattle.rows.proofs.Order.{node-in, node-pos, top-in}
 use Rattle.ranges.proofs.WholeStretch.{ticks-length, take-map, drop-map}
 

@@ -6,9 +6,9 @@ use native.Mathlib.Omega.{arith}
 use native.Mathlib.Decide.{decLt}
 use borrow.Author.Tests.{lt-ltb, le-ltb}
 use mathlib.Core.Bool.{Bool}
-use mathlib.Core.List.{List, [], _∷_, _++_}
+use mathlib.Core.List.{List, _++_}
 use lib.ListN.{length, take, drop, length-append, length-drop}
-use lib.Seq.{length-take-le, take-at, drop-at, take-all, take-nil}
+use lib.Seq.{length-take-le, take-at, drop-at, take-all}
 use Rattle.meaning.specs.Lists.{pick}
 use Rattle.meaning.specs.Groups.{half, firstPart, secondPart}
 use Rattle.ranges.specs.Stretch.{stretchCells, inside, inOrder}
@@ -91,9 +91,3 @@ module _ {X : Type 0} (row : List X → List ℕ) where
 
 pub top-fits : (d c : ℕ) → 0 < c → topRow c * d + d ≤ stretchCells d c
 top-fits d c h = le-trans (omega (arith, suc-mul (topRow c) d)) (mul-le-mul-right {m = suc (topRow c)} d (top-in c h))
-
-pub drop-take : {X : Type 0} (k n : ℕ) (l : List X) → drop k (take n l) ≡ take (n - k) (drop k l)
-drop-take zero n l = let z : n - 0 ≡ n = omega arith in rw z
-drop-take (suc k) n [] = ap (drop (suc k)) (take-nil n) ∙ sym (take-nil (n - suc k))
-drop-take (suc k) zero (x ∷ l) = let z : 0 - suc k ≡ 0 = omega arith in rw z
-drop-take (suc k) (suc n) (x ∷ l) = let z : suc n - suc k ≡ n - k = omega arith in rw z (drop-take k n l)
