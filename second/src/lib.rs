@@ -8,6 +8,7 @@
 pub mod bounds;
 pub mod desk;
 pub mod judge;
+pub mod list;
 pub mod paths;
 pub mod refusal;
 pub mod table;

@@ -4,7 +4,10 @@
 
 #![forbid(unsafe_code)]
 
-use std::io::{self, Write};
+mod made;
+
+use made::{edge_line, task, vertex_line, write_sequence, Random};
+use std::io;
 
 /// How many random tables are written, each whole and damaged.
 const RANDOM_TABLES: usize = 60;
@@ -29,40 +32,7 @@ fn main() -> io::Result<()> {
     edges(&mut texts);
     ends(&mut texts);
     random(&mut texts);
-    let mut target = io::stdout().lock();
-    for text in texts {
-        // A text is far shorter than 4 bytes can count.
-        target.write_all(&(text.len() as u32).to_be_bytes())?;
-        target.write_all(&text)?;
-    }
-    target.flush()
-}
-
-/// A task frame's line.
-fn task_line(vertices: usize, edges: usize) -> String {
-    format!("01{vertices:02x}{edges:02x}\n")
-}
-
-/// A vertex frame's line.
-fn vertex_line(e: u32, d: u32) -> String {
-    format!("02{e:04x}{d:04x}\n")
-}
-
-/// An edge frame's line.
-fn edge_line(from: usize, to: usize, p: u32) -> String {
-    format!("03{from:02x}{to:02x}{p:04x}\n")
-}
-
-/// The lines of a task with these vertices (e, d) and edges (from, to, p).
-fn task(vertices: &[(u32, u32)], edges: &[(usize, usize, u32)]) -> String {
-    let mut lines = task_line(vertices.len(), edges.len());
-    for &(e, d) in vertices {
-        lines += &vertex_line(e, d);
-    }
-    for &(from, to, p) in edges {
-        lines += &edge_line(from, to, p);
-    }
-    lines
+    write_sequence(&texts)
 }
 
 /// The valid lines with one of them, from 1, replaced.
@@ -201,19 +171,6 @@ fn ends(texts: &mut Vec<Vec<u8>>) {
     let longest = task(&[(1_000, 200); 12], &edges).repeat(8) + "00\n";
     texts.push(longest.clone().into_bytes());
     texts.push((longest + "\n").into_bytes());
-}
-
-/// A xorshift generator; its state is anything but zero.
-struct Random(u64);
-
-impl Random {
-    /// A number from 0 to below the end, which is at least 1.
-    fn below(&mut self, end: usize) -> usize {
-        self.0 ^= self.0 << 13;
-        self.0 ^= self.0 >> 7;
-        self.0 ^= self.0 << 17;
-        (self.0 >> 16) as usize % end
-    }
 }
 
 /// Random tables, each whole and damaged in one way.
