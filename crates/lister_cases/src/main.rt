@@ -11,13 +11,13 @@ use crate::task::list_task;
 use io::write_all;
 use reader::Status;
 use reader::read;
+use sequences::text_end;
 use table::Table;
 ghost use mathlib.Core.Path.{_≡_};
-ghost use Prim.Native.Nat.{_+_, _-_, _*_, _≤_};
+ghost use Prim.Native.Nat.{_-_, _*_};
 ghost use lib.ListN.{length};
 ghost use Rattle.meaning.specs.Bounds.{largestD, mostPaths};
 ghost use Rattle.judge.specs.Above.{Held};
-ghost use Rattle.lister_cases.specs.Sequence.{TextEnd};
 
 fn list_table(work: &mut [u32], t: Table)
     requires { ⌜ Held t × (length (now work) ≡ (2 * mostPaths - 1) * largestD) ⌝ }
@@ -44,27 +44,6 @@ fn list(work: &mut [u32], text: &[u8])
     };
     write_all(1, b"-");
     end_line();
-}
-
-fn wide(b: u8) -> usize
-    ensures { λ r. ⌜ r ≤ 255 ⌝ }
-{
-    b as usize
-}
-
-// Where the text whose length stands at `at` ends: the whole sequence's end where it breaks off.
-fn text_end(bytes: &[u8], at: usize) -> usize
-    requires { ⌜ at + 4 ≤ length (now bytes) ⌝ }
-    ensures { λ r. ⌜ TextEnd at r (length (now (bytes .entry))) ⌝ }
-{
-    let high = wide(bytes[at]) * 256 + wide(bytes[at + 1]);
-    let low = wide(bytes[at + 2]) * 256 + wide(bytes[at + 3]);
-    let from = at + 4;
-    let n = high * 65536 + low;
-    if bytes.len() - from < n {
-        return bytes.len();
-    }
-    from + n
 }
 
 fn list_all(work: &mut [u32], bytes: &[u8])

@@ -16,13 +16,13 @@ abbrev μ-loop : tie.MeasureT-loop
 μ-loop work₀ t judged j₀ work j = t .n - j
 
 sub-last : tie.Need-sub-last Inv-loop μ-loop
-sub-last c = omega (arith, last-task ((c .before .args .t2)) (((c .before .pre)) .0))
+sub-last c = omega (arith, last-task (c .before .args .t2) (c .before .pre .0))
 
 mul-last : tie.Need-mul-last Inv-loop μ-loop
-mul-last c = omega (arith, last-task ((c .before .args .t2)) (((c .before .pre)) .0), held-few ((c .before .args .t2)) (((c .before .pre)) .0))
+mul-last c = omega (arith, last-task (c .before .args .t2) (c .before .pre .0), held-few (c .before .args .t2) (c .before .pre .0))
 
 element-copy-out-last : tie.Need-element-copy-out-last Inv-loop μ-loop
-element-copy-out-last c = omega (arith, last-task ((c .before .args .t2)) (((c .before .pre)) .0), held-few ((c .before .args .t2)) (((c .before .pre)) .0))
+element-copy-out-last c = omega (arith, last-task (c .before .args .t2) (c .before .pre .0), held-few (c .before .args .t2) (c .before .pre .0))
 
 element-copy-out-judged : tie.Need-element-copy-out-judged Inv-loop μ-loop
 element-copy-out-judged c = search needs
@@ -31,13 +31,13 @@ loop-holds : tie.Need-loop-holds Inv-loop μ-loop
 loop-holds c = search needs
 
 mul-task : tie.Need-mul-task Inv-loop μ-loop
-mul-task c = omega (arith, held-few ((c .before .before .before .before .before .args .t2)) (((c .before .before .before .before .before .pre)) .0))
+mul-task c = omega (arith, held-few (c .before .before .before .before .before .args .t2) (c .before .before .before .before .before .pre .0))
 
 element-copy-out-task : tie.Need-element-copy-out-task Inv-loop μ-loop
-element-copy-out-task c = omega (arith, held-few ((c .before .before .before .before .before .args .t2)) (((c .before .before .before .before .before .pre)) .0))
+element-copy-out-task c = omega (arith, held-few (c .before .before .before .before .before .args .t2) (c .before .before .before .before .before .pre .0))
 
 list-task-requires : tie.Need-list-task-requires Inv-loop μ-loop
-list-task-requires c κs = let s = horizon ((c .before .before .before .before .before .before .before .args .t2)) (((c .before .before .before .before .before .before .before .pre)) .0) (((c .before .before .before .before .before .before .before .args .t2)) .n - 1) (omega (arith, last-task ((c .before .before .before .before .before .before .before .args .t2)) (((c .before .before .before .before .before .before .before .pre)) .0))) in (task-asks ((c .before .before .before .before .before .before .before .args .t2)) (((c .before .before .before .before .before .before .before .pre)) .0) ((c .before .before .before .loop .j)) (search needs) _, (s .0, s .1, ((c .before .before .before .loop .inv)) .1))
+list-task-requires c κs = let s = horizon (c .before .before .before .before .before .before .before .args .t2) (c .before .before .before .before .before .before .before .pre .0) ((c .before .before .before .before .before .before .before .args .t2) .n - 1) (omega (arith, last-task (c .before .before .before .before .before .before .before .args .t2) (c .before .before .before .before .before .before .before .pre .0))) in (task-asks (c .before .before .before .before .before .before .before .args .t2) (c .before .before .before .before .before .before .before .pre .0) (c .before .before .before .loop .j) (search needs) _, (s .0, s .1, (c .before .before .before .loop .inv) .1))
 
 add-j : tie.Need-add-j Inv-loop μ-loop
 add-j c = search needs
