@@ -1,11 +1,12 @@
-//! The desk program: one input, or with the argument `many` a sequence of texts. With `check`, only the text check of each.
-//! With `judge`, one judging call for each case of a sequence.
+//! The desk program: one input, or with the argument `many` a sequence of texts. With `check`, only the text check of each; with
+//! `list`, the paths of each one's tasks. With `judge`, one judging call for each case of a sequence.
 
 #![forbid(unsafe_code)]
 
 use second::bounds::INPUT_BYTES;
 use second::case::Case;
 use second::desk;
+use second::list::list;
 use std::env;
 use std::io::{self, BufReader, BufWriter, Read, Write};
 use std::process::ExitCode;
@@ -16,10 +17,11 @@ fn main() -> ExitCode {
     let result = match arguments.as_slice() {
         [] => one(),
         [argument] if argument == "many" => many(),
-        [argument] if argument == "check" => check(),
+        [argument] if argument == "check" => lines(desk::check),
+        [argument] if argument == "list" => lines(list),
         [argument] if argument == "judge" => judge(),
         _ => {
-            complain("usage: second [many | check | judge]");
+            complain("usage: second [many | check | list | judge]");
             return ExitCode::from(2);
         }
     };
@@ -58,12 +60,12 @@ fn many() -> io::Result<()> {
     target.flush()
 }
 
-/// Checks each text of a sequence: a line for each.
-fn check() -> io::Result<()> {
+/// Writes the lines of each text of a sequence.
+fn lines(of: fn(&[u8]) -> String) -> io::Result<()> {
     let mut source = BufReader::new(io::stdin().lock());
     let mut target = BufWriter::new(io::stdout().lock());
     while let Some(text) = next_text(&mut source)? {
-        target.write_all(desk::check(&text).as_bytes())?;
+        target.write_all(of(&text).as_bytes())?;
     }
     target.flush()
 }

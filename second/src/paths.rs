@@ -37,24 +37,32 @@ impl Path {
 
 /// The task's complete paths for a deadline d, in order; none if there are more than the limit.
 pub fn complete_paths(task: &Task, d: Ticks, limit: usize) -> Option<Vec<Path>> {
+    let paths = first_paths(task, d, limit + 1);
+    (paths.len() <= limit).then_some(paths)
+}
+
+/// The first of the task's complete paths for a deadline d, in order: so many, at least one, or all.
+pub fn first_paths(task: &Task, d: Ticks, most: usize) -> Vec<Path> {
     let mut lister = Lister {
         task,
         d,
-        limit,
+        most,
         path: Path::default(),
         listed: Vec::new(),
     };
     for (number, _) in (0..).zip(&task.vertices) {
-        lister.list(VertexNo(number), Ticks(0), Ticks(0))?;
+        if lister.list(VertexNo(number), Ticks(0), Ticks(0)).is_none() {
+            break;
+        }
     }
-    Some(lister.listed)
+    lister.listed
 }
 
 /// A listing under way.
 struct Lister<'a> {
     task: &'a Task,
     d: Ticks,
-    limit: usize,
+    most: usize,
     /// The path that is being extended.
     path: Path,
     /// The complete paths so far, in order.
@@ -87,12 +95,9 @@ impl Lister<'_> {
         Some(())
     }
 
-    /// Keeps the path as the next complete one; none past the limit.
+    /// Keeps the path as the next complete one; none if it is the last to be listed.
     fn keep(&mut self) -> Option<()> {
-        if self.listed.len() == self.limit {
-            return None;
-        }
         self.listed.push(self.path.clone());
-        Some(())
+        (self.listed.len() < self.most).then_some(())
     }
 }

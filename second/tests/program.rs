@@ -2,7 +2,7 @@
 
 mod common;
 
-use common::{r1, run, text};
+use common::{r1, run, self_edge, task, text};
 
 /// R1's output.
 const R1_OUTPUT: &str = "1000000000000001\n1001000000000001\n1002000100000001\n\
@@ -63,8 +63,28 @@ fn checked_texts() {
 }
 
 #[test]
+fn listed_texts() {
+    let r3 = text(&[self_edge(2, 5, 5), task(&[(1, 6)], &[])]);
+    let r7 = task(&[(3, 10), (1, 2), (4, 10)], &[(1, 2, 2)]);
+    let r7 = text(&[r7, task(&[(1, 5)], &[])]);
+    let edges: Vec<_> = (0..16).map(|n| (n / 4, n % 4, 10)).collect();
+    let r10 = text(&[task(&[(1, 10); 4], &edges), task(&[(1, 31)], &[])]);
+    let texts = [r3.as_bytes(), b"00\n", r7.as_bytes(), r10.as_bytes()];
+    let found = run(&["list"], &texts.map(with_length).concat());
+    // R3's load is 2 up to tick 5 and then 4; the other task's is 1 throughout.
+    let mut expected = "1\n0 0\n54\n1\n0\n21\n-\n".to_string();
+    // R7's rows, each summed: 45, 69, 63, 72 and 60.
+    expected += "3\n0\n1 2\n2\n309\n1\n0\n15\n";
+    expected += "65\n0 0 0 0\n0 0 0 1\n0 0 0 2\n0 0 0 3\n";
+    expected += "0 0 1 0\n0 0 1 1\n0 0 1 2\n0 0 1 3\n1\n0\n496\n";
+    assert_eq!(String::from_utf8(found.stdout).unwrap(), expected);
+    assert_eq!(found.status.code(), Some(0));
+    assert!(found.stderr.is_empty());
+}
+
+#[test]
 fn no_texts() {
-    for mode in ["many", "check", "judge"] {
+    for mode in ["many", "check", "list", "judge"] {
         let found = run(&[mode], b"");
         assert_eq!(found.status.code(), Some(0));
         assert!(found.stdout.is_empty() && found.stderr.is_empty());
@@ -77,7 +97,7 @@ fn a_broken_sequence() {
     let beginnings = (1..whole.len()).map(|end| whole[..end].to_vec());
     for broken in beginnings.chain([vec![0xff; 4], vec![0xff; 100]]) {
         for sequence in [broken.clone(), [whole.clone(), broken].concat()] {
-            for mode in ["many", "check"] {
+            for mode in ["many", "check", "list"] {
                 let found = run(&[mode], &sequence);
                 assert_eq!(found.status.code(), Some(1));
                 assert!(!found.stderr.is_empty());

@@ -7,7 +7,8 @@
 mod made;
 
 use made::{edge_line, task, vertex_line, Random};
-use std::io::{self, Write};
+use second::sequence::write_sequence;
+use std::io;
 
 /// How many random tables are written, each whole and damaged.
 const RANDOM_TABLES: usize = 60;
@@ -32,13 +33,7 @@ fn main() -> io::Result<()> {
     edges(&mut texts);
     ends(&mut texts);
     random(&mut texts);
-    let mut target = io::stdout().lock();
-    for text in texts {
-        // A text is far shorter than 4 bytes can count.
-        target.write_all(&(text.len() as u32).to_be_bytes())?;
-        target.write_all(&text)?;
-    }
-    target.flush()
+    write_sequence(&texts)
 }
 
 /// The valid lines with one of them, from 1, replaced.
