@@ -11,7 +11,7 @@ use Rattle.meaning.specs.Verdict as Said
 use Rattle.meaning.specs.Verdict.{meets, misses, unfinished, refused, numbers, cellsOf}
 use Rattle.meaning.specs.Areas.{workAfter, witnessAfter}
 use Rattle.meaning.specs.Judge.{judged, onReading, answer, needOf}
-use Rattle.meaning.specs.Demands.{Given}
+use Rattle.meaning.specs.Demands.{C, Given}
 use Rattle.meaning.proofs.Demands.{demand2, demand3}
 use Rattle.kinds.specs.declared.RefusedAt.{RefusedAt}
 use Rattle.kinds.specs.declared.Verdict.{Verdict}
@@ -89,6 +89,10 @@ module _ (text : List ℕ) (i v b : ℕ) (work wit : List ℕ) (r : Verdict) (wo
               let m = demand2 text ts q i v b (length work) (length wit) .misses-only c (p .0) (p .1) in
               (m .0, (p .0, m .1, written-paths c (p .0) (p .1), p .2), m .2);
           meets-only = λ c e. demand2 text ts q i v b (length work) (length wit) .meets-only c (says-meets x c (said (Meets c) e));
+          misses-if = λ a h o.
+              let p = demand2 text ts q i v b (length work) (length wit) .misses-if a h o in
+              (length (cellsOf (p .0)), same-verdict r (Misses (C ts i v) (length (cellsOf (p .0)))) (j .verdict ∙ ap numbers (p .1)));
+          meets-if = λ a h o. same-verdict r (Meets (C ts i v)) (j .verdict ∙ ap numbers (demand2 text ts q i v b (length work) (length wit) .meets-if a h o));
         }
 
     pub code-demand3 : Demand3 text ts i v b work wit r

@@ -28,6 +28,8 @@ pub record Demand1 (text : List ℕ) (i v b : ℕ) (work wit : List ℕ) (r : Ve
 pub record Demand2 (text : List ℕ) (ts : Table) (i v b : ℕ) (work wit : List ℕ) (r : Verdict) (work′ wit′ : List ℕ) : Type 0 where
   pub misses-only : (c n : ℕ) → r ≡ Misses c n → Overloadable ts i v × ((ws : List Path) × First ts i v ws × (wit′ ≡ written (cellsOf ws) wit) × (n ≡ length (cellsOf ws))) × (c ≡ C ts i v)
   pub meets-only : (c : ℕ) → r ≡ Meets c → (Overloadable ts i v → ⊥) × (c ≡ C ts i v)
+  pub misses-if : Admitted ts i v (length work) (length wit) → C ts i v ≤ b → Overloadable ts i v → (n : ℕ) × (r ≡ Misses (C ts i v) n)
+  pub meets-if : Admitted ts i v (length work) (length wit) → C ts i v ≤ b → (Overloadable ts i v → ⊥) → r ≡ Meets (C ts i v)
 
 -- "For one table and vertex, a larger budget or larger areas never alter a "meets" or a "misses" once given, its paths or its count. When no refusal
 -- applies, "unfinished" is given exactly if the budget is below the number of groups that document 01's rule has to examine, and that number is at
