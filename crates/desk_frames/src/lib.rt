@@ -10,16 +10,37 @@ use kinds::TaskNumber;
 use kinds::Verdict;
 use kinds::VertexNumber;
 use line::put_line;
+use path::path_lines;
 ghost use mathlib.Core.Path.{_≡_};
 ghost use Prim.Native.Nat.{_+_, _*_, _≤_, _<_};
 ghost use lib.ListN.{length, getD};
 ghost use Rattle.meaning.specs.Lists.{gather};
 ghost use Rattle.meaning.specs.Desk.{line, verdictFrame, countsFrame, refusalFrame, pathFrames};
 ghost use Rattle.kinds.specs.Numbers.{refusalNumber, verdictNumbers};
-ghost use Rattle.desk_frames.specs.Lines.{Wrote};
+ghost use Rattle.desk_frames.specs.Lines.{Wrote, WholeShown, shownLines};
 
-// A vertex's verdict.
-pub fn verdict_line(
+// A vertex's verdict, and after a miss one path a higher task, out of the witness area's cells.
+pub fn vertex_lines(
+    out: &mut [u8],
+    at: usize,
+    task: TaskNumber,
+    vertex: VertexNumber,
+    verdict: Verdict,
+    cells: &[u16],
+) -> usize
+    requires { ⌜ WholeShown verdict (task .0) (now cells) × (at + length (shownLines (record { task = task .0; vertex = vertex .0 }) verdict (now cells)) ≤ length (now out)) ⌝ }
+    ensures { λ r. ⌜ Wrote (shownLines (record { task = task .0; vertex = vertex .0 }) verdict (now (cells .entry))) (now (out .entry)) at (now (out .exit)) r ⌝ }
+{
+    let next = verdict_line(out, at, task, vertex, verdict);
+    match verdict {
+        Verdict::Meets(_) => next,
+        Verdict::Misses(_, _) => path_lines(out, next, cells, task.0 as usize),
+        Verdict::Unfinished(_) => next,
+        Verdict::Refused(_) => next,
+    }
+}
+
+fn verdict_line(
     out: &mut [u8],
     at: usize,
     task: TaskNumber,

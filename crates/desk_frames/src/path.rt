@@ -40,7 +40,7 @@ fn path_line(out: &mut [u8], at: usize, task: u8, path: &[u16]) -> usize
 }
 
 // The paths of h higher tasks, one line each.
-pub fn path_lines(out: &mut [u8], at: usize, cells: &[u16], h: usize) -> usize
+pub(crate) fn path_lines(out: &mut [u8], at: usize, cells: &[u16], h: usize) -> usize
     requires { ⌜ (h ≤ 255) × WholePaths h (now cells) × (at + length (gather line (pathFrames 0 (cellPaths h (now cells)))) ≤ length (now out)) ⌝ }
     ensures { λ r. ⌜ Wrote (gather line (pathFrames 0 (cellPaths h (now (cells .entry))))) (now (out .entry)) at (now (out .exit)) r ⌝ }
 {

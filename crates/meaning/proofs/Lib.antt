@@ -21,6 +21,7 @@ pub mod Verdicts
 pub mod Readable
 pub mod Answers
 pub mod Counts
+pub mod MissPaths
 pub mod Whole
 pub mod Demands
 pub mod Bench
