@@ -20,41 +20,7 @@ use Rattle.kinds.specs.Numbers.{refusalNumber, verdictNumbers}
 use Rattle.kinds.proofs.Numbers.{same-verdict}
 use Rattle.judge.specs.Judged.{Judged}
 use Rattle.judge.specs.Demands.{Demand1, Demand2, Demand3, Settled}
-
--- ---- the case from its numbers
-
-cell : {ns ms : List ℕ} (j : ℕ) → ns ≡ ms → getD ns j 0 ≡ getD ms j 0
-cell j q = ap (λ (ns : List ℕ). getD ns j 0) q
-
-says-meets : (x : Said.Verdict) (c : ℕ) → verdictNumbers (Meets c) ≡ numbers x → x ≡ meets c
-says-meets (meets a) c q = ap meets (sym (cell 1 q))
-says-meets (misses a ws) c q = absurd (omega (arith, cell 0 q))
-says-meets (unfinished b) c q = absurd (omega (arith, cell 0 q))
-says-meets (refused k place) c q = absurd (omega (arith, cell 0 q))
-
-says-misses : (x : Said.Verdict) (c n : ℕ) → verdictNumbers (Misses c n) ≡ numbers x → (ws : List Path) × (x ≡ misses c ws) × (n ≡ length (cellsOf ws))
-says-misses (meets a) c n q = absurd (omega (arith, cell 0 q))
-says-misses (misses a ws) c n q = (ws, ap (λ (k : ℕ). misses k ws) (sym (cell 1 q)), cell 2 q)
-says-misses (unfinished b) c n q = absurd (omega (arith, cell 0 q))
-says-misses (refused k place) c n q = absurd (omega (arith, cell 0 q))
-
-says-unfinished : (x : Said.Verdict) (n : ℕ) → verdictNumbers (Unfinished n) ≡ numbers x → x ≡ unfinished n
-says-unfinished (meets a) n q = absurd (omega (arith, cell 0 q))
-says-unfinished (misses a ws) n q = absurd (omega (arith, cell 0 q))
-says-unfinished (unfinished b) n q = ap unfinished (sym (cell 1 q))
-says-unfinished (refused k place) n q = absurd (omega (arith, cell 0 q))
-
-says-refused : (x : Said.Verdict) (at : RefusedAt) → verdictNumbers (Refused at) ≡ numbers x → (k n : ℕ) × (x ≡ refused k n)
-says-refused (meets a) at q = absurd (omega (arith, cell 0 q))
-says-refused (misses a ws) at q = absurd (omega (arith, cell 0 q))
-says-refused (unfinished b) at q = absurd (omega (arith, cell 0 q))
-says-refused (refused k place) at q = (k, place, refl)
-
-is-refused : (r : Verdict) (k n : ℕ) → verdictNumbers r ≡ numbers (refused k n) → (at : RefusedAt) × (r ≡ Refused at) × (refusalNumber (at .refusal) ≡ k) × (at .place ≡ n)
-is-refused (Meets c) k n q = absurd (omega (arith, cell 0 q))
-is-refused (Misses c m) k n q = absurd (omega (arith, cell 0 q))
-is-refused (Unfinished b) k n q = absurd (omega (arith, cell 0 q))
-is-refused (Refused at) k n q = (at, refl, cell 1 q, cell 2 q)
+use Rattle.judge.proofs.Cases.{says-meets, says-misses, says-unfinished, says-refused, is-refused}
 
 -- ---- the demands
 
@@ -71,7 +37,7 @@ module _ (text : List ℕ) (i v b : ℕ) (work wit : List ℕ) (r : Verdict) (wo
   unchanged : (at : RefusedAt) → r ≡ Refused at → (work′ ≡ work) × (wit′ ≡ wit)
   unchanged at q =
       let p = says-refused x at (said (Refused at) q) in
-      (j .cells ∙ ap (λ (y : Said.Verdict). workAfter y (needOf (read text) i v) work) (p .2), j .paths ∙ ap (λ (y : Said.Verdict). witnessAfter y wit) (p .2))
+      (j .cells ∙ ap (λ (y : Said.Verdict). workAfter y (needOf (read text) i v) work) p, j .paths ∙ ap (λ (y : Said.Verdict). witnessAfter y wit) p)
 
   pub code-demand1 : Demand1 text i v b work wit r work′ wit′
   code-demand1 =

@@ -9,4 +9,7 @@ pub mod Walking
 pub mod Sheet
 pub mod OneVertex
 pub mod Answers
+pub mod Cases
 pub mod Demands
+pub mod Outputs
+pub mod Shown

@@ -3,3 +3,4 @@ pub mod Stretches
 pub mod Witness
 pub mod Judged
 pub mod Demands
+pub mod Desk

@@ -1,21 +1,23 @@
 -- A whole table's four counts: they add up, and more budget never lowers the first two. Assumes nothing.
 use mathlib.Core.Path.{_≡_, refl, ap, ap₂, _∙_}
-use Prim.Native.Nat.{ℕ, zero, suc, _+_, _≤_, _<_}
+use Prim.Native.Nat.{ℕ, zero, suc, _+_, _*_, _≤_, _<_}
 use native.Mathlib.Nat.{le-refl}
 use native.Mathlib.Omega.{arith}
 use native.Mathlib.Decide.{decLt}
 use mathlib.Core.Bool.{Bool, true, false}
 use mathlib.Core.Option.{Option, none, some}
-use mathlib.Core.List.{List, [], _∷_, map}
+use mathlib.Core.List.{List, [], _∷_, map, List·Memᴰ·head, List·Memᴰ·tail}
 use lib.ListN.{length, length-map, length-append}
 use lib.Dec.{T, eqb, eqb→eq}
 use borrow.Author.Tests.{lt-ltb, le-ltb}
 use Rattle.meaning.specs.Lists.{pick, those, countFrom, below}
+use Rattle.meaning.specs.Bounds.{mostVertices}
 use Rattle.meaning.specs.Table.{Task, Table, higher}
 use Rattle.meaning.specs.Groups.{count, witness}
 use Rattle.meaning.specs.Verdict.{Verdict, meets, misses, unfinished, refused, Listed, loadOf, topOf, decided, budgeted, walked, walkedAt, ownE, deadline}
 use Rattle.meaning.specs.Judge.{Row, row9, row10, firstRow, unlessRefused}
 use Rattle.meaning.specs.Whole.{Place, placesFrom, places, verdictAt, verdicts, kindOf, ofKind, countsOf}
+use Rattle.meaning.specs.Sound.{AllSound, SoundTable}
 use Rattle.meaning.specs.Demands.{vertexTotal}
 
 -- ---- the four add up
@@ -40,6 +42,14 @@ length-places i (t ∷ ts) =
 -- the four add up to the number of vertices
 pub counts-all : (ts : Table) (b work : ℕ) → (let n = countsOf (verdicts ts b work) in n .meeting + n .missing + n .unfinishing + n .refusing) ≡ vertexTotal ts
 counts-all ts b work = one-kind (verdicts ts b work) ∙ length-map (places ts) (verdictAt ts b work) ∙ length-places 0 ts
+
+-- at most 96: eight tasks of twelve vertices
+total-few : (ts : List Task) → AllSound ts → vertexTotal ts ≤ mostVertices * length ts
+total-few [] s = omega arith
+total-few (t ∷ ts) s = omega (arith, s t (List·Memᴰ·head refl) .vertexCount, total-few ts (λ k m. s k (List·Memᴰ·tail m)))
+
+pub places-few : (ts : Table) → SoundTable ts → length (places ts) ≤ 96
+places-few ts s = omega (arith, length-places 0 ts, total-few ts (s .eachTask), s .taskCount)
 
 -- ---- more budget changes an unfinished verdict only
 
