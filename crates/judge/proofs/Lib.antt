@@ -8,6 +8,7 @@ pub mod Joining
 pub mod Walking
 pub mod Sheet
 pub mod OneVertex
+pub mod Remaining
 pub mod Answers
 pub mod Cases
 pub mod Demands

@@ -2,5 +2,6 @@ pub mod Above
 pub mod Stretches
 pub mod Witness
 pub mod Judged
+pub mod Whole
 pub mod Demands
 pub mod Desk

@@ -3,6 +3,8 @@
 // returns at once."
 mod above;
 mod areas;
+mod four_counts;
+mod places;
 mod stretches;
 mod vertex;
 mod witness;
@@ -14,6 +16,14 @@ use kinds::VertexNumber;
 use reader::Status;
 use reader::read;
 ghost use Rattle.judge.specs.Judged.{Judged};
+
+// Of a table's vertices, at most 96 in all: how many meet, miss, are unfinished and are refused.
+pub struct Counts {
+    pub meeting: u8,
+    pub missing: u8,
+    pub unfinishing: u8,
+    pub refusing: u8,
+}
 
 // One vertex of the text's table. After meets, misses and unfinished the needed work cells are zero; a miss's paths are in the witness area.
 pub fn judge(

@@ -1,0 +1,140 @@
+-- A loop over the vertices of a table: those from a place on. Assumes nothing.
+use mathlib.Core.Path.{_≡_, refl, sym, ap, ap₂, subst, _∙_}
+use Prim.Native.Nat.{ℕ, zero, suc, _+_, _-_, _≤_, _<_}
+use native.Mathlib.Nat.{sub-zero}
+use native.Mathlib.Numerals.{add-one}
+use native.Mathlib.Omega.{arith}
+use native.Mathlib.Decide.{decLt}
+use mathlib.Core.List.{List, [], _∷_, _++_, map, List·Memᴰ, List·Memᴰ·head, List·Memᴰ·tail}
+use lib.ListN.{length, drop, List·getD-eq-default}
+use lib.Seq.{drop-cons, drop-nil}
+use borrow.Author.Tests.{lt-ltb, le-ltb}
+use Rattle.meaning.specs.Lists.{countFrom}
+use Rattle.meaning.specs.Bounds.{mostVertices}
+use Rattle.meaning.specs.Table.{Task, Table, noTask, taskAt}
+use Rattle.meaning.specs.Sound.{SoundTable}
+use Rattle.meaning.specs.Whole.{Place, placesFrom, places}
+use Rattle.meaning.proofs.Lists.{mem-getD}
+use Rattle.table.specs.declared.Table as Record
+use Rattle.table.specs.Record.{tableOf}
+use Rattle.judge.specs.Above.{Held}
+use Rattle.judge.specs.Whole.{firstPlace, size, nextPlace, There}
+use Rattle.judge.proofs.Records.{held-count}
+use Rattle.judge.proofs.OneVertex.{ownTask, own-size, own-few}
+
+abbrev at : ℕ → ℕ → Place
+at i v = record { task = i; vertex = v }
+
+-- ---- past the end of a list
+
+past : {X : Type 0} (n : ℕ) (xs : List X) → length xs ≤ n → drop n xs ≡ []
+past n [] h = drop-nil n
+past zero (x ∷ xs) h = absurd (omega arith)
+past (suc n) (x ∷ xs) h = past n xs (omega arith)
+
+-- ---- the next place
+
+module _ (ts : Table) (q : Place) where
+  next-vertex : q .vertex + 1 < size ts (q .task) → at (q .task) (q .vertex + 1) ≡ nextPlace ts q
+  next-vertex h = rw (lt-ltb (q .vertex + 1) (size ts (q .task)) h)
+
+  next-task : size ts (q .task) ≤ q .vertex + 1 → at (q .task + 1) 0 ≡ nextPlace ts q
+  next-task h = rw (le-ltb (q .vertex + 1) (size ts (q .task)) h)
+
+-- ---- the vertices from a place on
+
+abbrev pub remaining : Table → Place → List Place
+remaining ts q = map (at (q .task)) (countFrom (q .vertex) (size ts (q .task) - q .vertex)) ++ placesFrom (suc (q .task)) (drop (suc (q .task)) ts)
+
+pub remaining-first : (ts : Table) → remaining ts firstPlace ≡ places ts
+remaining-first [] = refl
+remaining-first (k ∷ ks) = rw (sub-zero (length (k .vertices)))
+
+pub remaining-none : (ts : Table) (q : Place) → length ts ≤ q .task → remaining ts q ≡ []
+remaining-none ts q h =
+    let none : size ts (q .task) ≡ 0 = ap (λ (k : Task). length (k .vertices)) (List·getD-eq-default ts noTask h) in
+    let e : size ts (q .task) - q .vertex ≡ 0 = omega arith in
+    ap₂ (λ (n : ℕ) (ks : List Task). map (at (q .task)) (countFrom (q .vertex) n) ++ placesFrom (suc (q .task)) ks) e (past (suc (q .task)) ts (omega arith))
+
+-- the tasks from a number on
+from-task : (ts : Table) (i : ℕ) → remaining ts (at i 0) ≡ placesFrom i (drop i ts)
+from-task ts i =
+    elim (decLt i (length ts)) [ yes h ↦ ap (λ (n : ℕ). map (at i) (countFrom 0 n) ++ placesFrom (suc i) (drop (suc i) ts)) (sub-zero (size ts i)) ∙ sym (ap (placesFrom i) (drop-cons ts i noTask h)) | no h ↦ remaining-none ts (at i 0) (omega arith) ∙ sym (ap (placesFrom i) (past i ts (omega arith))) ]
+
+pub remaining-next : (ts : Table) (q : Place) → There ts q → remaining ts q ≡ q ∷ remaining ts (nextPlace ts q)
+remaining-next ts q h = elim (decLt (v + 1) (size ts i)) [ yes l ↦ within l | no l ↦ last (omega arith) ]
+  where
+    i : ℕ
+    i = q .task
+
+    v : ℕ
+    v = q .vertex
+
+    rest : List Place
+    rest = placesFrom (suc i) (drop (suc i) ts)
+
+    within : v + 1 < size ts i → remaining ts q ≡ q ∷ remaining ts (nextPlace ts q)
+    within l =
+        let e : size ts i - v ≡ suc (size ts i - (v + 1)) = omega arith in
+        ap (λ (n : ℕ). map (at i) (countFrom v n) ++ rest) e ∙ ap (λ (n : ℕ). q ∷ (map (at i) (countFrom n (size ts i - (v + 1))) ++ rest)) (sym (add-one v))
+        ∙ ap (λ (p : Place). q ∷ remaining ts p) (next-vertex ts q l)
+
+    last : size ts i ≤ v + 1 → remaining ts q ≡ q ∷ remaining ts (nextPlace ts q)
+    last l =
+        let e : size ts i - v ≡ 1 = omega (arith, h .vertex) in
+        ap (λ (n : ℕ). map (at i) (countFrom v n) ++ rest) e ∙ ap (λ (ps : List Place). q ∷ ps) (sym (from-task ts (suc i)))
+        ∙ ap (λ (n : ℕ). q ∷ remaining ts (at n 0)) (sym (add-one i)) ∙ ap (λ (p : Place). q ∷ remaining ts p) (next-task ts q l)
+
+-- ---- a loop has come to a place
+
+abbrev Inside : Table → Place → Type 0
+Inside ts q = (q .task ≤ length ts) × (q .task < length ts → q .vertex < size ts (q .task))
+
+pub record Reached (ts : Table) (q : Place) : Type 0 where
+  pub low : q .task ≤ length ts
+  pub vertex : q .task < length ts → q .vertex < size ts (q .task)
+  pub left : (p : Place) → List·Memᴰ p (remaining ts q) → List·Memᴰ p (places ts)
+
+some-vertex : (ts : Table) → SoundTable ts → (i : ℕ) → i < length ts → 0 < size ts i
+some-vertex ts s i h = omega (arith, s .eachTask (taskAt ts i) (mem-getD noTask ts i h) .someVertex)
+
+pub reached-first : (ts : Table) → SoundTable ts → Reached ts firstPlace
+reached-first ts s = record { low = omega arith; vertex = some-vertex ts s 0; left = λ p m. subst (List·Memᴰ p) (remaining-first ts) m }
+
+module _ {ts : Table} {q : Place} (r : Reached ts q) (l : q .task < length ts) where
+  pub reached-there : There ts q
+  reached-there = record { task = l; vertex = r .vertex l }
+
+  pub reached-in : List·Memᴰ q (places ts)
+  reached-in = r .left q (subst (List·Memᴰ q) (sym (remaining-next ts q reached-there)) (List·Memᴰ·head refl))
+
+  inside-next : SoundTable ts → Inside ts (nextPlace ts q)
+  inside-next s =
+      elim (decLt (q .vertex + 1) (size ts (q .task))) [
+        | yes h ↦ subst (Inside ts) (next-vertex ts q h) (r .low, λ _. h)
+        | no h ↦ subst (Inside ts) (next-task ts q (omega arith)) (omega arith, some-vertex ts s (q .task + 1))
+      ]
+
+  pub reached-next : SoundTable ts → Reached ts (nextPlace ts q)
+  reached-next s =
+      let i = inside-next s in
+      record { low = i .0; vertex = i .1; left = λ p m. r .left p (subst (List·Memᴰ p) (sym (remaining-next ts q reached-there)) (List·Memᴰ·tail m)) }
+
+  -- the loop ends
+  pub reached-fewer : length (remaining ts (nextPlace ts q)) < length (remaining ts q)
+  reached-fewer = omega (arith, ap length (remaining-next ts q reached-there))
+
+-- ---- of a held table
+
+module _ (t : Record.Table) (k : Held t) (q : Place) (h : There (tableOf t) q) where
+  here : q .task < t .n
+  here = omega (arith, held-count t k, h .task)
+
+  pub next-fits : q .vertex + 1 ≤ mostVertices
+  next-fits = omega (arith, own-few t k (q .task) here .0, own-size t k (q .task) here, h .vertex)
+
+  pub next-own : q .vertex + 1 < ownTask t (q .task) .nv → at (q .task) (q .vertex + 1) ≡ nextPlace (tableOf t) q
+  next-own l = next-vertex (tableOf t) q (omega (arith, own-size t k (q .task) here))
+
+  pub next-below : ownTask t (q .task) .nv ≤ q .vertex + 1 → at (q .task + 1) 0 ≡ nextPlace (tableOf t) q
+  next-below l = next-task (tableOf t) q (omega (arith, own-size t k (q .task) here))
