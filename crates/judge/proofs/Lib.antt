@@ -9,6 +9,7 @@ pub mod Walking
 pub mod Sheet
 pub mod OneVertex
 pub mod Remaining
+pub mod Totals
 pub mod Answers
 pub mod Cases
 pub mod Demands

@@ -2,7 +2,8 @@
 use crate::Counts;
 use kinds::Verdict;
 ghost use mathlib.Core.Path.{_≡_};
-ghost use Prim.Native.Nat.{_<_};
+ghost use Prim.Native.Nat.{_*_, _<_};
+ghost use Rattle.meaning.specs.Bounds.{mostTasks, mostVertices};
 ghost use Rattle.judge.specs.Whole.{noCounts, oneMore, total};
 
 pub(crate) fn no_counts() -> Counts
@@ -18,7 +19,7 @@ pub(crate) fn no_counts() -> Counts
 
 // One more of the verdict's kind.
 pub(crate) fn counted(c: Counts, x: Verdict) -> Counts
-    requires { ⌜ total c < 96 ⌝ }
+    requires { ⌜ total c < mostTasks * mostVertices ⌝ }
     ensures { λ r. ⌜ r ≡ oneMore c x ⌝ }
 {
     let mut r = c;
