@@ -15,3 +15,4 @@ pub mod Cases
 pub mod Demands
 pub mod Outputs
 pub mod Shown
+pub mod Desking

@@ -32,7 +32,7 @@ pub lines-cons : (ts : Table) (q : Place) (qs : List Place) → linesOf ts (q �
 unfolding linesOf vertexLines
 lines-cons ts q qs = gather-append line (vertexFrames q (deskVerdict ts q)) (gather (λ (p : Place). vertexFrames p (deskVerdict ts p)) qs)
 
-pub countsLine : Table → List ℕ
+unfoldable pub countsLine : Table → List ℕ
 countsLine ts = line (countsFrame (countsOf (map (deskVerdict ts) (places ts))))
 
 pub table-lines : (ts : Table) → gather line (tableFrames ts) ≡ linesOf ts (places ts) ++ countsLine ts

@@ -4,18 +4,18 @@ use Prim.Native.Nat.{ℕ, _+_, _*_, _≤_, _<_}
 use native.Mathlib.Omega.{arith}
 use native.Mathlib.Nat.{add-zero, zero-add, add-assoc}
 use native.Mathlib.Numerals.{one-add}
-use mathlib.Core.List.{List, [], _∷_, map, List·Memᴰ·head, List·Memᴰ·tail}
+use mathlib.Core.List.{List, [], _∷_, map}
 use lib.ListN.{length, getD}
 use lib.Dec.{eqb}
 use Rattle.meaning.specs.Lists.{pick}
 use Rattle.meaning.specs.Bounds.{mostTasks, mostVertices}
-use Rattle.meaning.specs.Table.{Task, Table}
+use Rattle.meaning.specs.Table.{Table}
 use Rattle.meaning.specs.Verdict as Said
 use Rattle.meaning.specs.Verdict.{meets, misses, unfinished, refused, numbers}
-use Rattle.meaning.specs.Sound.{AllSound, SoundTable}
+use Rattle.meaning.specs.Sound.{SoundTable}
 use Rattle.meaning.specs.Whole as Meant
 use Rattle.meaning.specs.Whole.{Place, verdictAt, verdicts, kindOf, countsOf}
-use Rattle.meaning.specs.Demands.{vertexTotal}
+use Rattle.meaning.proofs.Counts.{vertices-few}
 use Rattle.meaning.proofs.Demands.{four-counts}
 use Rattle.kinds.specs.declared.Verdict.{Verdict}
 use Rattle.kinds.specs.declared.Verdict.the-variants.{Meets, Misses, Unfinished, Refused}
@@ -65,10 +65,6 @@ total-one (misses c ws) = refl
 total-one (unfinished b) = refl
 total-one (refused k place) = refl
 
-few-vertices : (ks : List Task) → AllSound ks → vertexTotal ks ≤ mostVertices * length ks
-few-vertices [] s = omega arith
-few-vertices (k ∷ ks) s = omega (arith, s k (List·Memᴰ·head refl) .vertexCount, few-vertices ks (λ x m. s x (List·Memᴰ·tail m)))
-
 -- ---- counting, with the vertices from q on still to come
 
 pub record CountedSoFar (ts : Table) (b work : ℕ) (c : Counts) (q : Place) : Type 0 where
@@ -99,4 +95,4 @@ module _ (ts : Table) (b work : ℕ) where
 
       -- there is room for one more
       pub counted-few : SoundTable ts → total c < mostTasks * mostVertices
-      counted-few s = omega (arith, ap totalOf (come q h), total-one (verdictAt ts b work q), ap totalOf (k .sums), four-counts ts work .adds-up b, few-vertices ts (s .eachTask), s .taskCount)
+      counted-few s = omega (arith, ap totalOf (come q h), total-one (verdictAt ts b work q), ap totalOf (k .sums), four-counts ts work .adds-up b, vertices-few ts s)

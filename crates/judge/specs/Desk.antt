@@ -2,12 +2,17 @@
 use Prim.Native.Nat.{ℕ}
 use mathlib.Core.List.{List, []}
 use lib.Dec.{ltb}
-use Rattle.meaning.specs.Lists.{pick}
-use Rattle.meaning.specs.Desk.{output}
+use Rattle.meaning.specs.Lists.{pick, gather}
+use Rattle.meaning.specs.Table.{Table}
+use Rattle.meaning.specs.Desk.{line, tableFrames, output}
 
 -- room for any output: 96 vertices, each with its verdict's line of 17 bytes and seven path lines of at most 407, and the counts' line of 11
 abbrev pub longestOutput : ℕ
 longestOutput = 275147
+
+-- the output for a readable table
+unfoldable pub tableOutput : Table → List ℕ
+tableOutput ts = gather line (tableFrames ts)
 
 -- what is written into an area of n bytes: the output, or nothing where one might not fit
 unfoldable pub outputInto : List ℕ → ℕ → List ℕ

@@ -3,6 +3,7 @@
 // returns at once."
 mod above;
 mod areas;
+mod desk;
 mod four_counts;
 mod places;
 mod stretches;

@@ -11,7 +11,7 @@ use lib.ListN.{length, length-map, length-append}
 use lib.Dec.{T, eqb, eqb→eq}
 use borrow.Author.Tests.{lt-ltb, le-ltb}
 use Rattle.meaning.specs.Lists.{pick, those, countFrom, below}
-use Rattle.meaning.specs.Bounds.{mostVertices}
+use Rattle.meaning.specs.Bounds.{mostTasks, mostVertices}
 use Rattle.meaning.specs.Table.{Task, Table, higher}
 use Rattle.meaning.specs.Groups.{count, witness}
 use Rattle.meaning.specs.Verdict.{Verdict, meets, misses, unfinished, refused, Listed, loadOf, topOf, decided, budgeted, walked, walkedAt, ownE, deadline}
@@ -48,8 +48,11 @@ total-few : (ts : List Task) → AllSound ts → vertexTotal ts ≤ mostVertices
 total-few [] s = omega arith
 total-few (t ∷ ts) s = omega (arith, s t (List·Memᴰ·head refl) .vertexCount, total-few ts (λ k m. s k (List·Memᴰ·tail m)))
 
-pub places-few : (ts : Table) → SoundTable ts → length (places ts) ≤ 96
-places-few ts s = omega (arith, length-places 0 ts, total-few ts (s .eachTask), s .taskCount)
+pub vertices-few : (ts : Table) → SoundTable ts → vertexTotal ts ≤ mostTasks * mostVertices
+vertices-few ts s = omega (arith, total-few ts (s .eachTask), s .taskCount)
+
+pub places-few : (ts : Table) → SoundTable ts → length (places ts) ≤ mostTasks * mostVertices
+places-few ts s = omega (arith, length-places 0 ts, vertices-few ts s)
 
 -- ---- more budget changes an unfinished verdict only
 
