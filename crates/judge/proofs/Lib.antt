@@ -16,3 +16,4 @@ pub mod Demands
 pub mod Outputs
 pub mod Shown
 pub mod Desking
+pub mod Output

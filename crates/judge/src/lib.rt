@@ -10,13 +10,25 @@ mod stretches;
 mod vertex;
 mod witness;
 
+use crate::desk::table_lines;
 use crate::vertex::judge_vertex;
+use desk_frames::refusal_line;
+use kinds::Refusal;
+use kinds::RefusedAt;
 use kinds::TaskNumber;
 use kinds::Verdict;
 use kinds::VertexNumber;
 use reader::Status;
 use reader::read;
+ghost use lib.ListN.{length};
+ghost use Rattle.desk_frames.specs.Lines.{Wrote};
 ghost use Rattle.judge.specs.Judged.{Judged};
+ghost use Rattle.judge.specs.Desk.{outputInto};
+
+// The longest input that is read as a text, and room for any output.
+const LONGEST_INPUT: usize = 8191;
+
+pub const LONGEST_OUTPUT: usize = 275147;
 
 // Of a table's vertices, at most 96 in all: how many meet, miss, are unfinished and are refused.
 pub struct Counts {
@@ -44,4 +56,24 @@ pub fn judge(
         return judge_vertex(table, task, vertex, budget, work, witness);
     };
     Verdict::Refused(at)
+}
+
+// The desk's whole output for an input, from the front of a lent area; gives its length. Nothing is written where an output might not fit.
+pub fn desk_output(text: &[u8], out: &mut [u8]) -> usize
+    ensures { λ r. ⌜ Wrote (outputInto (now (text .entry)) (length (now (out .entry)))) (now (out .entry)) 0 (now (out .exit)) r ⌝ }
+{
+    if out.len() < LONGEST_OUTPUT {
+        return 0;
+    }
+    if LONGEST_INPUT < text.len() {
+        let refusal = Refusal::InputTooLong;
+        return refusal_line(out, 0, RefusedAt { refusal, place: 0 });
+    }
+    let reading = read(text);
+    let status = reading.status;
+    let Status::Refused(at) = status else {
+        let table = reading.table;
+        return table_lines(out, table);
+    };
+    refusal_line(out, 0, at)
 }

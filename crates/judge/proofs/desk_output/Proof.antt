@@ -1,0 +1,63 @@
+use Rattle.reader.proofs.Result.{table-read, line-refused}
+use Rattle.judge.proofs.Answers.{read-held}
+use Rattle.judge.proofs.Output.{writes-none, writes-long, writes-table, writes-refused}
+use borrow.Author.Needs.{needs}
+use Rattle.judge.proofs.desk_output.Statement.{statement}
+use Rattle.judge.proofs.desk_output.Tie as tie
+
+returns : tie.Need-returns
+returns c = writes-none ((c .before .before .before .args .text .now)) ((c .before .before .before .args .out .now)) ((c .if1 .taken))
+
+refusal-line-requires : tie.Need-refusal-line-requires
+refusal-line-requires c κs = search needs
+
+same-length : tie.Need-same-length
+same-length c = search needs
+
+returns-2 : tie.Need-returns-2
+returns-2 c = writes-long ((c .before .before .before .before .before .before .before .before .args .text .now)) ((c .before .before .before .before .before .before .before .before .args .out .now)) (search needs) ((c .before .before .before .before .if2 .taken)) ((c .before .before .refusal-line .ensures))
+
+read-requires : tie.Need-read-requires
+read-requires c κs = search needs
+
+enum-known-status : tie.Need-enum-known-status
+enum-known-status c = search needs
+
+enum-told : tie.Need-enum-told
+enum-told c = search needs
+
+table-lines-requires : tie.Need-table-lines-requires
+table-lines-requires c κs = (read-held (table-read ((c .before .before .before .before .before .before .before .before .before .args .text .now)) ((c .before .before .before .before .read .result)) ((c .before .before .before .before .read .ensures)) ((c .before .before .enum-told .given .1))), search needs)
+
+same-length-2 : tie.Need-same-length-2
+same-length-2 c = search needs
+
+returns-3 : tie.Need-returns-3
+returns-3 c = writes-table ((c .before .before .before .before .before .before .before .before .before .before .before .before .args .text .now)) ((c .before .before .before .before .before .before .before .before .before .before .before .before .args .out .now)) (search needs) (search needs) ((c .before .before .before .before .before .before .before .read .result) .table) (table-read ((c .before .before .before .before .before .before .before .before .before .before .before .before .args .text .now)) ((c .before .before .before .before .before .before .before .read .result)) ((c .before .before .before .before .before .before .before .read .ensures)) ((c .before .before .before .before .before .enum-told .given .1))) ((c .before .before .table-lines .ensures))
+
+refusal-line-requires-2 : tie.Need-refusal-line-requires-2
+refusal-line-requires-2 c κs = search needs
+
+same-length-3 : tie.Need-same-length-3
+same-length-3 c = search needs
+
+returns-4 : tie.Need-returns-4
+returns-4 c = writes-refused ((c .before .before .before .before .before .before .before .before .before .before .before .before .args .text .now)) ((c .before .before .before .before .before .before .before .before .before .before .before .before .args .out .now)) (search needs) (search needs) ((c .before .before .before .before .before .status .given .0 .0)) (line-refused ((c .before .before .before .before .before .before .before .before .before .before .before .before .args .text .now)) ((c .before .before .before .before .before .before .before .read .result)) ((c .before .before .before .before .before .before .before .read .ensures)) ((c .before .before .before .before .before .status .given .1))) ((c .before .before .refusal-line2 .ensures))
+
+pub desk-output-spec : {M : Type 1} → statement M
+desk-output-spec =
+    tie.close
+    (tie.spec
+    returns
+    refusal-line-requires
+    same-length
+    returns-2
+    read-requires
+    enum-known-status
+    enum-told
+    table-lines-requires
+    same-length-2
+    returns-3
+    refusal-line-requires-2
+    same-length-3
+    returns-4)
