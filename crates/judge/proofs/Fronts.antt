@@ -1,11 +1,11 @@
 -- A front that is written cell by cell: these, and then what was there. Assumes nothing.
 use mathlib.Core.Path.{_≡_, refl, sym, ap, ap₂, _∙_}
-use Prim.Native.Nat.{ℕ, suc, _+_, _≤_, _<_}
+use Prim.Native.Nat.{ℕ, zero, suc, _+_, _≤_, _<_, max}
 use native.Mathlib.Omega.{arith}
 use native.Mathlib.Numerals.{add-one}
 use mathlib.Core.List.{List, [], _∷_, _++_, append-assoc}
 use lib.ListN.{length, take, drop, getD, set, replicate, length-append, length-drop, length-replicate, getD-replicate}
-use lib.Seq.{take-suc, drop-cons, set-at, length-take-le, take-all}
+use lib.Seq.{take-suc, drop-cons, set-at, length-take-le, take-all, drop-nil}
 use Rattle.meaning.specs.Areas.{written, zeroed}
 
 front-more : (X P : List ℕ) (t v : ℕ) → length X ≡ t → t < length P → set (X ++ drop t P) t v ≡ (X ++ v ∷ []) ++ drop (t + 1) P
@@ -64,3 +64,15 @@ zeroing-more {n} {before} {now} {i} z h =
 
 pub zeroing-all : {n : ℕ} {before now : List ℕ} {i : ℕ} → Zeroing n before now i → n ≤ i → now ≡ zeroed n before
 zeroing-all {n} {before} z h = writing-all (z .writing) (rw length-replicate h) ∙ ap (λ (k : ℕ). replicate n 0 ++ drop k before) (length-replicate n 0)
+
+-- zeros over zeros: the longer front
+pub zeroed-twice : (m n : ℕ) (cells : List ℕ) → zeroed m (zeroed n cells) ≡ zeroed (max n m) cells
+zeroed-twice zero n cells = let e : n ≡ max n 0 = omega arith in ap (λ (k : ℕ). zeroed k cells) e
+zeroed-twice (suc m) zero cells = let e : suc m ≡ max 0 (suc m) = omega arith in ap (λ (k : ℕ). zeroed k cells) e
+zeroed-twice (suc m) (suc n) [] =
+    let e : suc (max n m) ≡ max (suc n) (suc m) = omega arith in
+    let tail = simp drop-nil at (zeroed-twice m n []) in
+    ap (λ (l : List ℕ). 0 ∷ l) tail ∙ ap (λ (k : ℕ). zeroed k []) e
+zeroed-twice (suc m) (suc n) (x ∷ xs) =
+    let e : suc (max n m) ≡ max (suc n) (suc m) = omega arith in
+    ap (λ (l : List ℕ). 0 ∷ l) (zeroed-twice m n xs) ∙ ap (λ (k : ℕ). zeroed k (x ∷ xs)) e

@@ -10,6 +10,7 @@ pub mod Sheet
 pub mod OneVertex
 pub mod Remaining
 pub mod Totals
+pub mod WholeTable
 pub mod Answers
 pub mod Cases
 pub mod Demands

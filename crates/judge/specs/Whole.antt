@@ -1,9 +1,12 @@
 -- The vertices of a table one after the other, and how many have which verdict. Assumes nothing.
+use mathlib.Core.Path.{_≡_}
 use Prim.Native.Nat.{ℕ, _+_, _<_}
+use mathlib.Core.List.{List}
 use lib.ListN.{length}
 use lib.Dec.{ltb}
 use Rattle.meaning.specs.Lists.{pick}
 use Rattle.meaning.specs.Table.{Table, taskAt}
+use Rattle.meaning.specs.Areas.{zeroed}
 use Rattle.meaning.specs.Whole as Meant
 use Rattle.kinds.specs.declared.Verdict.{Verdict}
 use Rattle.kinds.specs.declared.Verdict.the-variants.{Meets, Misses, Unfinished, Refused}
@@ -48,3 +51,10 @@ oneMore c (Meets count) = record { meeting = c .meeting + 1; missing = c .missin
 oneMore c (Misses count cells) = record { meeting = c .meeting; missing = c .missing + 1; unfinishing = c .unfinishing; refusing = c .refusing }
 oneMore c (Unfinished budget) = record { meeting = c .meeting; missing = c .missing; unfinishing = c .unfinishing + 1; refusing = c .refusing }
 oneMore c (Refused at) = record { meeting = c .meeting; missing = c .missing; unfinishing = c .unfinishing; refusing = c .refusing + 1 }
+
+-- ---- judging a whole table
+
+-- "Zeroed from the front are as many work cells as the largest need among vertices not refused."
+pub record TableCounted (ts : Table) (b : ℕ) (work : List ℕ) (r : Counts) (work′ : List ℕ) : Type 0 where
+  pub counts : meantCounts r ≡ Meant.countsOf (Meant.verdicts ts b (length work))
+  pub cells : work′ ≡ zeroed (Meant.tableNeed ts b (length work)) work

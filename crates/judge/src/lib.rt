@@ -8,6 +8,7 @@ mod four_counts;
 mod places;
 mod stretches;
 mod vertex;
+mod whole;
 mod witness;
 
 use crate::desk::table_lines;

@@ -1,0 +1,30 @@
+// "Judging a whole table [..] takes one budget, given afresh to each vertex, and returns how many meet, miss, are unfinished and are refused by 9 or 10.
+// [..] It takes no witness area."
+use crate::Counts;
+use crate::four_counts::counted;
+use crate::four_counts::no_counts;
+use crate::places::first_place;
+use crate::places::next_place;
+use crate::vertex::judge_vertex;
+use table::Table;
+ghost use Rattle.table.specs.Record.{tableOf};
+ghost use Rattle.judge.specs.Above.{Held};
+ghost use Rattle.judge.specs.Whole.{TableCounted};
+
+// A witness area of its own, as long as any vertex needs, so that no vertex is refused by 11.
+pub(crate) fn count_verdicts(t: Table, budget: u32, work: &mut [u32]) -> Counts
+    requires { ⌜ Held t ⌝ }
+    ensures { λ r. ⌜ TableCounted (tableOf t) budget (now (work .entry)) r (now (work .exit)) ⌝ }
+{
+    let mut witness = [0u16; 1407];
+    let mut counts = no_counts();
+    let mut at = first_place();
+    while (at.task.0 as usize) < t.n {
+        let task = at.task;
+        let vertex = at.vertex;
+        let verdict = judge_vertex(t, task, vertex, budget, work, &mut witness);
+        counts = counted(counts, verdict);
+        at = next_place(t, at);
+    }
+    counts
+}
