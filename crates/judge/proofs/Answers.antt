@@ -1,21 +1,26 @@
 -- The answer to a text: refused at its line, or that of its table. Assumes nothing.
-use mathlib.Core.Path.{refl, sym, subst}
+use mathlib.Core.Path.{_≡_, refl, sym, ap, subst}
 use Prim.Native.Nat.{ℕ}
 use mathlib.Core.List.{List}
 use lib.ListN.{length}
 use Rattle.meaning.specs.Table as Meant
-use Rattle.meaning.specs.Text.{Reading}
+use Rattle.meaning.specs.Text.{Reading, read}
 use Rattle.meaning.specs.Verdict as Said
 use Rattle.meaning.specs.Areas.{workNeed}
 use Rattle.meaning.specs.Judge.{judged, onReading, needOf}
+use Rattle.meaning.specs.Whole.{counted, tableAnswer, tableWorkAfter}
 use Rattle.kinds.specs.declared.RefusedAt.{RefusedAt}
 use Rattle.kinds.specs.declared.Verdict.{Verdict}
 use Rattle.kinds.specs.declared.Verdict.the-variants.{Refused}
 use Rattle.table.specs.declared.Table.{Table}
 use Rattle.table.specs.Record.{tableOf}
 use Rattle.reader.proofs.Result.{TableRead, LineRefused}
+use Rattle.judge.specs.declared.Counts.{Counts}
+use Rattle.judge.specs.declared.TableVerdict.{TableVerdict}
+use Rattle.judge.specs.declared.TableVerdict.the-variants as Whole
 use Rattle.judge.specs.Above.{Held}
 use Rattle.judge.specs.Judged.{Answered, Judged}
+use Rattle.judge.specs.Whole.{TableCounted, answerOf, TableJudged}
 
 pub read-held : {text : List ℕ} {t : Table} → TableRead text t → Held t
 read-held r = record { whole = r .is; sound = r .sound }
@@ -30,3 +35,18 @@ module _ (text : List ℕ) (i v b : ℕ) (work wit : List ℕ) where
   pub table-answers : (t : Table) (r : Verdict) (work′ wit′ : List ℕ) → TableRead text t
       → Answered (judged (tableOf t) i v b (length work) (length wit)) (workNeed (tableOf t) i v) work wit r work′ wit′ → Judged text i v b work wit r work′ wit′
   table-answers t r work′ wit′ q x = subst (λ m. For m r work′ wit′) (sym (q .means)) x
+
+-- ---- of a whole table
+
+module _ (text : List ℕ) (b : ℕ) (work : List ℕ) where
+  abbrev ForTable : Reading → TableVerdict → List ℕ → Type 0
+  ForTable m r work′ = (answerOf r ≡ tableAnswer m b (length work)) × (work′ ≡ tableWorkAfter m b work)
+
+  on-reading : (m : Reading) (r : TableVerdict) (work′ : List ℕ) → read text ≡ m → ForTable m r work′ → TableJudged text b work r work′
+  on-reading m r work′ q x = let y = subst (λ n. ForTable n r work′) (sym q) x in record { verdict = y .0; cells = y .1 }
+
+  pub text-uncounted : (at : RefusedAt) → LineRefused text at → TableJudged text b work (Whole.Refused at) work
+  text-uncounted at l = on-reading _ (Whole.Refused at) work (l .means) (refl, refl)
+
+  pub table-counted : (t : Table) (c : Counts) (work′ : List ℕ) → TableRead text t → TableCounted (tableOf t) b work c work′ → TableJudged text b work (Whole.Counted c) work′
+  table-counted t c work′ q x = on-reading _ (Whole.Counted c) work′ (q .means) (ap counted (x .counts), x .cells)

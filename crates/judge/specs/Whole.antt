@@ -6,11 +6,15 @@ use lib.ListN.{length}
 use lib.Dec.{ltb}
 use Rattle.meaning.specs.Lists.{pick}
 use Rattle.meaning.specs.Table.{Table, taskAt}
+use Rattle.meaning.specs.Text.{read}
 use Rattle.meaning.specs.Areas.{zeroed}
 use Rattle.meaning.specs.Whole as Meant
 use Rattle.kinds.specs.declared.Verdict.{Verdict}
 use Rattle.kinds.specs.declared.Verdict.the-variants.{Meets, Misses, Unfinished, Refused}
+use Rattle.kinds.specs.Numbers.{refusalNumber}
 use Rattle.judge.specs.declared.Counts.{Counts}
+use Rattle.judge.specs.declared.TableVerdict.{TableVerdict}
+use Rattle.judge.specs.declared.TableVerdict.the-variants as Whole
 use Rattle.judge.specs.declared.places.Place.{Place}
 
 -- ---- the vertices, in rising order of task and then vertex
@@ -58,3 +62,13 @@ oneMore c (Refused at) = record { meeting = c .meeting; missing = c .missing; un
 pub record TableCounted (ts : Table) (b : ℕ) (work : List ℕ) (r : Counts) (work′ : List ℕ) : Type 0 where
   pub counts : meantCounts r ≡ Meant.countsOf (Meant.verdicts ts b (length work))
   pub cells : work′ ≡ zeroed (Meant.tableNeed ts b (length work)) work
+
+-- "first checks the text (1 to 7, nothing changed)": the four counts, or the refusal's number and its line
+abbrev pub answerOf : TableVerdict → Meant.TableAnswer
+answerOf (Whole.Counted c) = Meant.counted (meantCounts c)
+answerOf (Whole.Refused at) = Meant.uncounted (refusalNumber (at .refusal)) (at .place)
+
+-- a judging call on a text: budget b, and the work area before and after
+pub record TableJudged (text : List ℕ) (b : ℕ) (work : List ℕ) (r : TableVerdict) (work′ : List ℕ) : Type 0 where
+  pub verdict : answerOf r ≡ Meant.tableAnswer (read text) b (length work)
+  pub cells : work′ ≡ Meant.tableWorkAfter (read text) b work

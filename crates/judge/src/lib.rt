@@ -13,6 +13,7 @@ mod witness;
 
 use crate::desk::table_lines;
 use crate::vertex::judge_vertex;
+use crate::whole::count_verdicts;
 use desk_frames::refusal_line;
 use kinds::Refusal;
 use kinds::RefusedAt;
@@ -24,6 +25,7 @@ use reader::read;
 ghost use lib.ListN.{length};
 ghost use Rattle.desk_frames.specs.Lines.{Wrote};
 ghost use Rattle.judge.specs.Judged.{Judged};
+ghost use Rattle.judge.specs.Whole.{TableJudged};
 ghost use Rattle.judge.specs.Desk.{outputInto};
 
 // The longest input that is read as a text, and room for any output.
@@ -37,6 +39,12 @@ pub struct Counts {
     pub missing: u8,
     pub unfinishing: u8,
     pub refusing: u8,
+}
+
+// A table that is readable has its four counts.
+pub enum TableVerdict {
+    Counted(Counts),
+    Refused(RefusedAt),
 }
 
 // One vertex of the text's table. After meets, misses and unfinished the needed work cells are zero; a miss's paths are in the witness area.
@@ -57,6 +65,20 @@ pub fn judge(
         return judge_vertex(table, task, vertex, budget, work, witness);
     };
     Verdict::Refused(at)
+}
+
+// "Judging a whole table first checks the text (1 to 7, nothing changed)." Of the work area as many cells become zero as some vertex not refused needs.
+pub fn judge_table(text: &[u8], budget: u32, work: &mut [u32]) -> TableVerdict
+    ensures { λ r. ⌜ TableJudged (now (text .entry)) budget (now (work .entry)) r (now (work .exit)) ⌝ }
+{
+    let reading = read(text);
+    let status = reading.status;
+    let Status::Refused(at) = status else {
+        let table = reading.table;
+        let counts = count_verdicts(table, budget, work);
+        return TableVerdict::Counted(counts);
+    };
+    TableVerdict::Refused(at)
 }
 
 // The desk's whole output for an input, from the front of a lent area; gives its length. Nothing is written where an output might not fit.
