@@ -23,7 +23,7 @@ use Rattle.judge.specs.Whole.{firstPlace, nextPlace, There, meantCounts,
 use Rattle.judge.specs.Desk.{longestOutput, tableOutput}
 use Rattle.judge.proofs.Remaining.{remaining, remaining-first, remaining-next, remaining-none, Reached, reached-first, reached-there, reached-in, reached-next, reached-fewer}
 use Rattle.judge.proofs.Totals.{CountedSoFar, counted-first, counted-next, counted-few, counted-all}
-use Rattle.judge.proofs.Outputs.{vertexLines, linesOf, lines-cons, countsLine, table-lines, lines-fit}
+use Rattle.judge.proofs.DeskLines.{vertexLines, linesOf, lines-cons, countsLine, table-lines, lines-fit}
 use Rattle.judge.proofs.Shown.{Shown, vertex-shown}
 
 -- ---- the desk's verdicts are those of the whole table

@@ -14,7 +14,7 @@ pub mod WholeTable
 pub mod Answers
 pub mod Cases
 pub mod Demands
-pub mod Outputs
+pub mod DeskLines
 pub mod Shown
 pub mod Desking
 pub mod Output

@@ -2,23 +2,29 @@
 use mathlib.Core.Path.{_≡_, refl, sym, ap, subst, _∙_}
 use Prim.Native.Nat.{ℕ, _≤_, _<_}
 use native.Mathlib.Omega.{arith}
+use native.Mathlib.Decide.{decLt}
 use mathlib.Core.Bool.{Bool, true, false}
-use mathlib.Core.List.{List, [], _∷_, append-nil}
-use lib.ListN.{length}
+use mathlib.Core.List.{List, [], _∷_, _++_, map, append-nil}
+use lib.ListN.{length, length-append}
 use lib.Dec.{ltb}
 use borrow.Author.Tests.{lt-ltb, le-ltb}
 use Rattle.meaning.specs.Lists.{pick, gather}
 use Rattle.meaning.specs.Bounds.{longestInput}
-use Rattle.meaning.specs.Text.{Reading, read}
-use Rattle.meaning.specs.Desk.{line, refusalFrame, readingFrames, frames, output}
+use Rattle.meaning.specs.Table as Meant
+use Rattle.meaning.specs.Text.{Reading, readable, unreadable, read}
+use Rattle.meaning.specs.Sound.{SoundTable}
+use Rattle.meaning.specs.Whole.{places, countsOf}
+use Rattle.meaning.specs.Desk.{line, countsFrame, refusalFrame, deskVerdict, tableFrames, readingFrames, frames, output}
+use Rattle.meaning.proofs.Demands.{readable-sound}
 use Rattle.kinds.specs.declared.RefusedAt.{RefusedAt}
 use Rattle.kinds.specs.Numbers.{refusalNumber}
 use Rattle.table.specs.declared.Table.{Table}
 use Rattle.table.specs.Record.{tableOf}
 use Rattle.reader.proofs.Result.{TableRead, LineRefused}
 use Rattle.desk_frames.specs.Lines.{Wrote}
-use Rattle.desk_frames.proofs.Lines.{wrote-none}
+use Rattle.desk_frames.proofs.Lines.{wrote-none, wrote-length, line-length}
 use Rattle.judge.specs.Desk.{longestOutput, tableOutput, outputInto}
+use Rattle.judge.proofs.DeskLines.{linesOf, countsLine, table-lines, lines-fit}
 
 module _ (text : List ℕ) where
   -- 12 is checked before all
@@ -55,3 +61,28 @@ module _ (text : List ℕ) where
         writes-refused at q w =
             let f = refusalFrame (refusalNumber (at .refusal)) (at .place) in
             writes (line f) (output-read short _ (q .means) ∙ append-nil (line f)) w
+
+-- ---- what is written fits the area
+
+table-fits : (ts : Meant.Table) → SoundTable ts → length (gather line (tableFrames ts)) ≤ longestOutput
+unfolding countsLine
+table-fits ts s =
+    omega (arith, ap length (table-lines ts), length-append (linesOf ts (places ts)) (countsLine ts), line-length (countsFrame (countsOf (map (deskVerdict ts) (places ts)))), lines-fit ts s)
+
+reading-fits : (text : List ℕ) (m : Reading) → read text ≡ m → length (gather line (readingFrames m)) ≤ longestOutput
+reading-fits text (readable ts) e = table-fits ts (readable-sound text ts e)
+reading-fits text (unreadable k n) e = omega arith
+
+pub output-fits : (text : List ℕ) (n : ℕ) → length (outputInto text n) ≤ n
+unfolding outputInto
+output-fits text n = elim (decLt n longestOutput) [ yes h ↦ rw (lt-ltb n longestOutput h) (omega arith) | no h ↦ rw (le-ltb n longestOutput (omega arith)) (omega (arith, short)) ]
+  where
+    short : length (output text) ≤ longestOutput
+    short =
+        elim (decLt longestInput (length text)) [
+          | yes h ↦ omega (arith, ap length (output-long text h))
+          | no h ↦ subst (λ (l : List ℕ). length l ≤ longestOutput) (sym (output-read text (omega arith) (read text) refl)) (reading-fits text (read text) refl)
+        ]
+
+pub output-within : (text : List ℕ) {out after : List ℕ} {r : ℕ} → Wrote (outputInto text (length out)) out 0 after r → r ≤ length after
+output-within text {out} w = omega (arith, w .end, wrote-length w, output-fits text (length out))

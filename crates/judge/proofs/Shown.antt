@@ -24,7 +24,7 @@ use Rattle.desk_frames.specs.Lines.{WholePaths, WholeShown, cellPaths, shownLin
 use Rattle.desk_frames.proofs.PathLines.{cells-paths, cells-whole}
 use Rattle.judge.specs.Judged.{Answered}
 use Rattle.judge.proofs.Cases.{says-meets, says-misses, says-unfinished, says-refused}
-use Rattle.judge.proofs.Outputs.{vertexLines}
+use Rattle.judge.proofs.DeskLines.{vertexLines}
 
 pub record Shown (ts : Table) (q : Place) (r : Verdict) (cells : List ℕ) : Type 0 where
   pub whole : WholeShown r (q .task) cells
