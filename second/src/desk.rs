@@ -28,7 +28,7 @@ pub fn check(text: &[u8]) -> String {
 }
 
 /// Reads an input: refusal 12 before all, then as a text.
-fn read(input: &[u8]) -> Result<Table, Refusal> {
+pub(crate) fn read(input: &[u8]) -> Result<Table, Refusal> {
     if input.len() > INPUT_BYTES {
         return Err(Refusal::at(Row::LongInput, 0));
     }

@@ -16,3 +16,4 @@ pub mod sequence;
 pub mod table;
 pub mod text;
 mod walk;
+pub mod words;

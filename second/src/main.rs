@@ -1,5 +1,6 @@
-//! The desk program: one input, or with the argument `many` a sequence of texts. With `check`, only the text check of each; with
-//! `list`, the paths of each one's tasks. With `judge`, one judging call for each case of a sequence.
+//! The desk program: one input, or with the argument `many` a sequence of texts. With `words`, each one's answer in words for
+//! people; with `check`, only the text check of each; with `list`, the paths of each one's tasks. With `judge`, one judging call
+//! for each case of a sequence.
 
 #![forbid(unsafe_code)]
 
@@ -7,6 +8,7 @@ use second::bounds::INPUT_BYTES;
 use second::case::Case;
 use second::desk;
 use second::list::list;
+use second::words::words;
 use std::env;
 use std::io::{self, BufReader, BufWriter, Read, Write};
 use std::process::ExitCode;
@@ -17,11 +19,12 @@ fn main() -> ExitCode {
     let result = match arguments.as_slice() {
         [] => one(),
         [argument] if argument == "many" => many(),
+        [argument] if argument == "words" => lines(|text| words(text) + "\n"),
         [argument] if argument == "check" => lines(desk::check),
         [argument] if argument == "list" => lines(list),
         [argument] if argument == "judge" => judge(),
         _ => {
-            complain("usage: second [many | check | list | judge]");
+            complain("usage: second [many | words | check | list | judge]");
             return ExitCode::from(2);
         }
     };

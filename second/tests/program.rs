@@ -2,17 +2,11 @@
 
 mod common;
 
-use common::{r1, run, self_edge, task, text};
+use common::{r1, run, self_edge, task, text, with_length};
 
 /// R1's output.
 const R1_OUTPUT: &str = "1000000000000001\n1001000000000001\n1002000100000001\n\
                          1100020000\n11010100\n1f02010000\n";
-
-/// Bytes preceded by their length in 4 bytes.
-fn with_length(bytes: &[u8]) -> Vec<u8> {
-    let length = u32::try_from(bytes.len()).unwrap();
-    [&length.to_be_bytes(), bytes].concat()
-}
 
 #[test]
 fn one_input() {
@@ -84,7 +78,7 @@ fn listed_texts() {
 
 #[test]
 fn no_texts() {
-    for mode in ["many", "check", "list", "judge"] {
+    for mode in ["many", "words", "check", "list", "judge"] {
         let found = run(&[mode], b"");
         assert_eq!(found.status.code(), Some(0));
         assert!(found.stdout.is_empty() && found.stderr.is_empty());
@@ -97,7 +91,7 @@ fn a_broken_sequence() {
     let beginnings = (1..whole.len()).map(|end| whole[..end].to_vec());
     for broken in beginnings.chain([vec![0xff; 4], vec![0xff; 100]]) {
         for sequence in [broken.clone(), [whole.clone(), broken].concat()] {
-            for mode in ["many", "check", "list"] {
+            for mode in ["many", "words", "check", "list"] {
                 let found = run(&[mode], &sequence);
                 assert_eq!(found.status.code(), Some(1));
                 assert!(!found.stderr.is_empty());

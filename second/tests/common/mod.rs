@@ -133,6 +133,12 @@ pub fn refusal(verdict: Verdict) -> Option<(u8, usize)> {
     }
 }
 
+/// Bytes preceded by their length in 4 bytes.
+pub fn with_length(bytes: &[u8]) -> Vec<u8> {
+    let length = u32::try_from(bytes.len()).unwrap();
+    [&length.to_be_bytes(), bytes].concat()
+}
+
 /// Runs the program with these arguments and this standard input.
 pub fn run(arguments: &[&str], input: &[u8]) -> Output {
     let mut program = Command::new(env!("CARGO_BIN_EXE_second"))

@@ -1,0 +1,200 @@
+//! What the desk's answer says, in words for people.
+
+use crate::bounds::{BUDGET, INPUT_BYTES, PATHS, WITNESS_CELLS, WORK_CELLS};
+use crate::desk;
+use crate::judge::{judge_vertex, Counts, Verdict};
+use crate::refusal::{Refusal, Row};
+use crate::table::{Table, Task, TaskNo, Ticks, Vertex};
+
+/// How many bytes of a faulty line are shown, at most.
+const SHOWN_BYTES: usize = 60;
+
+/// The words for an input: a line for each vertex and what follows from them, or why nothing was judged.
+pub fn words(input: &[u8]) -> String {
+    match desk::read(input) {
+        Ok(table) => table_words(&table),
+        Err(refusal) => refusal_words(input, &refusal),
+    }
+}
+
+/// The words for a refused text or input.
+fn refusal_words(input: &[u8], refusal: &Refusal) -> String {
+    let number = refusal.number();
+    let line = refusal.place;
+    let rule = match refusal.row {
+        Row::Line => {
+            "a line must be pairs of the digits 0-9a-f, at least one pair, and end in a line feed"
+        }
+        Row::Frame => "this kind of frame isn't allowed here, or its length is wrong for its kind",
+        Row::Number => {
+            "a number is outside its bounds, or an edge names a vertex that the task hasn't"
+        }
+        Row::Deadline => "the deadline of the edge's starting vertex exceeds the separation",
+        Row::EdgeOrder => "the edge doesn't come after the one before it in its task",
+        Row::NoEnd => "the text ends and no end frame was read",
+        Row::AfterEnd => "there are bytes after the end frame",
+        // Of the other rows, only 12 refuses before a vertex is judged.
+        _ => {
+            let reason = format!("the input is longer than {INPUT_BYTES} bytes");
+            return format!("REFUSED ({number}): {reason}\n{}", unread());
+        }
+    };
+    let shown = shown_line(input, line);
+    format!(
+        "REFUSED ({number}) at line {line}: {rule}\n    {shown}\n{}",
+        unread()
+    )
+}
+
+/// The last line where no table was read.
+fn unread() -> &'static str {
+    "This may NOT go out: the table can't be read, so nothing was judged.\n"
+}
+
+/// A line of a text, from 1, as far as it is shown.
+fn shown_line(text: &[u8], line: usize) -> String {
+    let mut lines = text.split_inclusive(|&byte| byte == b'\n');
+    let Some(bytes) = lines.nth(line - 1) else {
+        return "(the text ends before this line)".into();
+    };
+    let bytes = bytes.strip_suffix(b"\n").unwrap_or(bytes);
+    if bytes.is_empty() {
+        return "(an empty line)".into();
+    }
+    let first = &bytes[..bytes.len().min(SHOWN_BYTES)];
+    let more = if bytes.len() > SHOWN_BYTES { "..." } else { "" };
+    first.iter().copied().map(shown_byte).collect::<String>() + more
+}
+
+/// A byte as it is, if it can be seen and isn't the backslash, and else by its two digits.
+fn shown_byte(byte: u8) -> String {
+    match byte {
+        b'\\' => r"\x5c".into(),
+        b' '..=b'~' => char::from(byte).into(),
+        _ => format!("\\x{byte:02x}"),
+    }
+}
+
+/// The words for a table: each vertex, the four counts, and whether it may go out.
+fn table_words(table: &Table) -> String {
+    let mut work = [0; WORK_CELLS];
+    let mut witness = [0; WITNESS_CELLS];
+    let mut counts = Counts::default();
+    let mut words = String::new();
+    for (task, number) in table.numbers() {
+        let verdict = judge_vertex(table, task, number, BUDGET, &mut work, &mut witness);
+        counts.add(&verdict);
+        // Every number that the table lists has its vertex.
+        let vertex = &table.tasks[usize::from(task.0)].vertices[usize::from(number.0)];
+        words += &format!("task {}, vertex {}: ", task.0, number.0);
+        words += &verdict_words(&verdict, task, vertex);
+        if let Verdict::Misses { .. } = verdict {
+            words += &miss_words(table, task, vertex, &witness);
+        }
+    }
+    words + &counts_words(&counts)
+}
+
+/// What is said of a vertex after its numbers, to the end of the line.
+fn verdict_words(verdict: &Verdict, task: TaskNo, vertex: &Vertex) -> String {
+    let deadline = |count| {
+        let (d, groups) = (ticks(vertex.d.0), number_of(count, "group"));
+        format!("its deadline of {d} ({groups} examined)")
+    };
+    match *verdict {
+        Verdict::Meets { count } => format!("meets {}\n", deadline(count)),
+        Verdict::Misses { count, .. } => {
+            let cause = match task {
+                TaskNo(0) => " with no other task's help",
+                _ => ", shown by these releases",
+            };
+            format!("MISSES {}{cause}:\n", deadline(count))
+        }
+        Verdict::Unfinished { budget } => {
+            let groups = number_of(budget, "group");
+            format!("UNFINISHED: the search was cut short after {groups}; this is neither a yes nor a no\n")
+        }
+        Verdict::Refused(refusal) => {
+            let (number, because) = (refusal.number(), refusal_reason(&refusal));
+            format!("REFUSED ({number}){because}, so this was not judged\n")
+        }
+    }
+}
+
+/// Why a vertex was refused.
+fn refusal_reason(refusal: &Refusal) -> String {
+    let place = refusal.place;
+    match refusal.row {
+        Row::ManyPaths => format!(": task {place} has more than {PATHS} complete paths"),
+        Row::WorkArea => format!(": {place} work cells are needed and there are {WORK_CELLS}"),
+        _ => String::new(),
+    }
+}
+
+/// The lines below a miss: the releases in the witness area, and the work that is due by the deadline.
+fn miss_words(table: &Table, task: TaskNo, vertex: &Vertex, witness: &[u16]) -> String {
+    let mut words = String::new();
+    let mut due = vertex.e;
+    let mut front = witness;
+    for (number, higher) in table.tasks[..usize::from(task.0)].iter().enumerate() {
+        let (path, rest) = front[1..].split_at(usize::from(front[0]));
+        words += &format!("    task {number}: {}\n", releases(higher, path));
+        // The whole path is released before the deadline, so its load there is all of it.
+        for &cell in path {
+            due = due + higher.vertices[usize::from(cell)].e;
+        }
+        front = rest;
+    }
+    let (due, own, d) = (due.0, vertex.e.0, vertex.d.0);
+    let (all, over) = (ticks(due), ticks(due - d));
+    words
+        + &format!(
+            "    {all} of work are due by the deadline, {own} of them its own: {over} too many\n"
+        )
+}
+
+/// Each vertex of a path with its tick: the first at 0, the next ones by the separations.
+fn releases(task: &Task, path: &[u16]) -> String {
+    let mut tick = Ticks(0);
+    let mut released = vec![format!("vertex {} at tick 0", path[0])];
+    for pair in path.windows(2) {
+        let edges = &task.vertices[usize::from(pair[0])].edges;
+        // A path goes by edges, and at most one leads to each vertex.
+        for edge in edges.iter().filter(|edge| edge.to.0 == pair[1]) {
+            tick = tick + edge.p;
+        }
+        released.push(format!("vertex {} at tick {}", pair[1], tick.0));
+    }
+    released.join(", ")
+}
+
+/// The four counts, and the sentence that they decide.
+fn counts_words(counts: &Counts) -> String {
+    let Counts {
+        meets,
+        misses,
+        unfinished,
+        refused,
+    } = counts;
+    let sentence = if *misses > 0 {
+        "This may NOT go out: a job type misses its deadline."
+    } else if unfinished + refused > 0 {
+        "This may NOT go out: not every job type was shown to meet its deadline."
+    } else {
+        "This may go out: every job type meets its deadline."
+    };
+    format!(
+        "meets {meets}, misses {misses}, unfinished {unfinished}, refused {refused}\n{sentence}\n"
+    )
+}
+
+/// So many ticks.
+fn ticks(number: u32) -> String {
+    number_of(number, "tick")
+}
+
+/// A number with the name of what it counts.
+fn number_of(number: u32, name: &str) -> String {
+    let more = if number == 1 { "" } else { "s" };
+    format!("{number} {name}{more}")
+}
