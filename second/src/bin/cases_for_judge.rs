@@ -6,7 +6,8 @@
 
 mod made;
 
-use made::{edge_line, task, vertex_line, Random};
+use made::bench::{r1, r10, r10_texts, r3, r4, r5, r7, R11_TEXTS};
+use made::{edge_line, self_edge, task, text, vertex_line, Random};
 use second::case::Case;
 use second::judge::{judge, Verdict};
 use second::refusal::{Refusal, Row};
@@ -40,42 +41,6 @@ fn main() -> io::Result<()> {
     target.flush()
 }
 
-/// The text of these tasks.
-fn text(tasks: &[String]) -> String {
-    tasks.concat() + "00\n"
-}
-
-/// The lines of a self-edge task (e, d, p).
-fn self_edge(e: u32, d: u32, p: u32) -> String {
-    task(&[(e, d)], &[(0, 0, p)])
-}
-
-/// R1's text, with the last e.
-fn r1(last_e: u32) -> String {
-    text(&[
-        self_edge(2, 5, 5),
-        self_edge(2, 7, 7),
-        self_edge(last_e, 6, 7),
-    ])
-}
-
-/// R5's text, with the judged d.
-fn r5(d: u32) -> String {
-    text(&[task(&[(1, 5), (3, 5)], &[]), task(&[(2, d)], &[])])
-}
-
-/// R7's text.
-fn r7() -> String {
-    let above = task(&[(3, 10), (1, 2), (4, 10)], &[(1, 2, 2)]);
-    text(&[above, task(&[(1, 5)], &[])])
-}
-
-/// R10's task: four vertices and all 16 edges with p 10, then further vertices without edges.
-fn r10(vertices: usize) -> String {
-    let edges: Vec<_> = (0..16).map(|n| (n / 4, n % 4, 10)).collect();
-    task(&vec![(1, 10); vertices], &edges)
-}
-
 /// A case.
 fn case(text: &str, numbers: (u8, u8), budget: u32, lent: (u32, u32)) -> Case {
     Case {
@@ -94,17 +59,11 @@ fn bench(cases: &mut Vec<Case>) {
         cases.push(case(&r1(2), (number, 0), 100_000, ENOUGH));
     }
     cases.push(case(&r1(1), (2, 0), 100_000, ENOUGH));
-    for d in [5, 6] {
-        let below = task(&[(9, d)], &[]);
-        cases.push(case(&text(&[self_edge(2, 5, 5), below]), (1, 0), 1, ENOUGH));
+    for horizon in [5, 6] {
+        cases.push(case(&r3(horizon), (1, 0), 1, ENOUGH));
     }
-    cases.push(case(
-        &text(&[task(&[(3, 2)], &[])]),
-        (0, 0),
-        100_000,
-        ENOUGH,
-    ));
-    cases.push(case(&text(&[task(&[(3, 2)], &[])]), (0, 0), 1, (0, 0)));
+    cases.push(case(&r4(), (0, 0), 100_000, ENOUGH));
+    cases.push(case(&r4(), (0, 0), 1, (0, 0)));
     for d in [5, 4] {
         cases.push(case(&r5(d), (1, 0), 100_000, ENOUGH));
     }
@@ -116,13 +75,12 @@ fn bench(cases: &mut Vec<Case>) {
             cases.push(case(&r7(), (1, 0), 100_000, (work, witness)));
         }
     }
-    for (above, e, d) in [(4, 1, 21), (4, 20, 21), (4, 1, 31), (5, 1, 21), (5, 1, 20)] {
-        let text = text(&[r10(above), task(&[(e, d)], &[])]);
+    for text in r10_texts() {
         for lent in [MOST_CELLS, (0, 0)] {
             cases.push(case(&text, (1, 0), 100_000, lent));
         }
     }
-    for text in ["", "00\n", "00"] {
+    for text in R11_TEXTS {
         cases.push(case(text, (0, 0), 100_000, ENOUGH));
     }
 }

@@ -1,4 +1,10 @@
-//! What the generators share: lines of a text, and a pseudo-random generator.
+//! What the generators share: lines of a text, the bench examples, the refusals of a text, and a pseudo-random generator.
+
+// No generator uses all of it.
+#![allow(dead_code)]
+
+pub mod bench;
+pub mod refusals;
 
 /// A task frame's line.
 fn task_line(vertices: usize, edges: usize) -> String {
@@ -27,6 +33,16 @@ pub fn task(vertices: &[(u32, u32)], edges: &[(usize, usize, u32)]) -> String {
     lines
 }
 
+/// The lines of a self-edge task (e, d, p).
+pub fn self_edge(e: u32, d: u32, p: u32) -> String {
+    task(&[(e, d)], &[(0, 0, p)])
+}
+
+/// The text of these tasks.
+pub fn text(tasks: &[String]) -> String {
+    tasks.concat() + "00\n"
+}
+
 /// A xorshift generator; its state is anything but zero.
 pub struct Random(pub u64);
 
@@ -37,5 +53,17 @@ impl Random {
         self.0 ^= self.0 >> 7;
         self.0 ^= self.0 << 17;
         (self.0 >> 16) as usize % end
+    }
+}
+
+/// Changes, puts in, takes out or cuts off at a random byte of a text that has one.
+pub fn damage(random: &mut Random, text: &mut Vec<u8>) {
+    let at = random.below(text.len());
+    let byte = b"0123456789abcdefAFg\r\n "[random.below(22)];
+    match random.below(5) {
+        0 | 1 => text[at] = byte,
+        2 => text.insert(at, byte),
+        3 => drop(text.remove(at)),
+        _ => text.truncate(at),
     }
 }

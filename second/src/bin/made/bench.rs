@@ -1,0 +1,56 @@
+//! The bench examples R1 to R11 as texts.
+
+use super::{self_edge, task, text};
+
+/// R1's text, with the last e.
+pub fn r1(last_e: u32) -> String {
+    text(&[
+        self_edge(2, 5, 5),
+        self_edge(2, 7, 7),
+        self_edge(last_e, 6, 7),
+    ])
+}
+
+/// R3's task, below it a vertex that always misses and whose d is the horizon.
+pub fn r3(horizon: u32) -> String {
+    text(&[self_edge(2, 5, 5), task(&[(9, horizon)], &[])])
+}
+
+/// R4's text.
+pub fn r4() -> String {
+    text(&[task(&[(3, 2)], &[])])
+}
+
+/// R5's text, with the judged d.
+pub fn r5(d: u32) -> String {
+    text(&[task(&[(1, 5), (3, 5)], &[]), task(&[(2, d)], &[])])
+}
+
+/// R7's text.
+pub fn r7() -> String {
+    let above = task(&[(3, 10), (1, 2), (4, 10)], &[(1, 2, 2)]);
+    text(&[above, task(&[(1, 5)], &[])])
+}
+
+/// R10's task: four vertices and all 16 edges with p 10, then further vertices without edges.
+pub fn r10(vertices: usize) -> String {
+    let edges: Vec<_> = (0..16).map(|n| (n / 4, n % 4, 10)).collect();
+    task(&vec![(1, 10); vertices], &edges)
+}
+
+/// R10's texts: 64 paths, once with a miss; 256 and 65, which are refused; and 17.
+pub fn r10_texts() -> [String; 5] {
+    let judged = [(4, 1, 21), (4, 20, 21), (4, 1, 31), (5, 1, 21), (5, 1, 20)];
+    judged.map(|(above, e, d)| text(&[r10(above), task(&[(e, d)], &[])]))
+}
+
+/// R11's texts.
+pub const R11_TEXTS: [&str; 3] = ["", "00\n", "00"];
+
+/// The texts of R1 to R11; R8 is about budgets and R9 about areas, both with R7's text.
+pub fn texts() -> Vec<String> {
+    let mut texts = vec![r1(2), r1(1), r3(5), r3(6), r4(), r5(5), r5(4), r7()];
+    texts.extend(r10_texts());
+    texts.extend(R11_TEXTS.map(String::from));
+    texts
+}
