@@ -4,6 +4,7 @@ mod common;
 
 use common::*;
 use second::words::words;
+use std::process::Command;
 
 /// The last line where no table was read.
 const UNREAD: &str = "This may NOT go out: the table can't be read, so nothing was judged.\n";
@@ -242,4 +243,47 @@ fn the_program_writes_an_empty_line_after_each_text() {
     assert_eq!(String::from_utf8(found.stdout).unwrap(), expected);
     assert_eq!(found.status.code(), Some(0));
     assert!(found.stderr.is_empty());
+}
+
+#[test]
+fn the_texts_that_the_words_are_checked_with() {
+    let table = concat!(env!("CARGO_MANIFEST_DIR"), "/../tables/r1.table");
+    let mut generator = Command::new(env!("CARGO_BIN_EXE_texts_for_words"));
+    let sequence = generator.arg(table).output().unwrap().stdout;
+    let texts = texts_of(&sequence);
+    assert!((60..=100).contains(&texts.len()));
+    assert!(sequence.len() <= 262_144);
+    assert_eq!(texts[0], text(&common::r1(2)).as_bytes());
+    let words: Vec<_> = texts.iter().map(|text| words(text)).collect();
+    for said in [
+        "REFUSED (1) at",
+        "REFUSED (2) at",
+        "REFUSED (3) at",
+        "REFUSED (4) at",
+        "REFUSED (5) at",
+        "REFUSED (6) at",
+        "REFUSED (7) at",
+        "REFUSED (9): task 0",
+        "REFUSED (9): task 1",
+        "REFUSED (10): ",
+        "REFUSED (12): ",
+        "(an empty line)",
+        "(the text ends before this line)",
+        r"\x0d",
+        r"\x5c",
+        r"\xff",
+        "f...",
+        "0g",
+        ": meets its",
+        "MISSES its deadline of 1 tick (",
+        "examined), shown by",
+        "help:",
+        ": 1 tick too many",
+        "at tick 199",
+        "This may go out",
+        "not every job type was shown",
+        "a job type misses",
+    ] {
+        assert!(words.iter().any(|words| words.contains(said)), "{said}");
+    }
 }

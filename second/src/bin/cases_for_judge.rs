@@ -7,7 +7,7 @@
 mod made;
 
 use made::bench::{r1, r10, r10_texts, r3, r4, r5, r7, R11_TEXTS};
-use made::{edge_line, self_edge, task, text, vertex_line, Random};
+use made::{edge_line, random_task, self_edge, task, text, vertex_line, Random, Size};
 use second::case::Case;
 use second::judge::{judge, Verdict};
 use second::refusal::{Refusal, Row};
@@ -24,6 +24,14 @@ const LARGEST_COUNT: u32 = 3_000;
 const RANDOM_VERTICES: [usize; 3] = [3, 8, 8];
 /// The largest count that is small.
 const SMALL_COUNT: u32 = 20;
+
+/// Random tasks with a few short paths.
+const SIZE: Size = Size {
+    vertices: 4,
+    e: 6,
+    d: (3, 22),
+    p: 8,
+};
 
 /// Writes each case.
 fn main() -> io::Result<()> {
@@ -233,7 +241,7 @@ fn random(cases: &mut Vec<Case>) {
     let mut missing = RANDOM_VERTICES;
     while meeting.iter().chain(&missing).any(|&left| left > 0) {
         let tasks: Vec<_> = (0..2 + random.below(4))
-            .map(|_| random_task(&mut random))
+            .map(|_| random_task(&mut random, &SIZE))
             .collect();
         let text = text(&tasks);
         let numbers = (tasks.len() as u8 - 1, 0);
@@ -253,23 +261,4 @@ fn random(cases: &mut Vec<Case>) {
 /// Which of the sizes of `RANDOM_VERTICES` a count has.
 fn size(count: u32) -> usize {
     usize::from(count > 1) + usize::from(count > SMALL_COUNT)
-}
-
-/// The lines of a random valid task.
-fn random_task(random: &mut Random) -> String {
-    let count = 1 + random.below(4);
-    let mut vertices = Vec::new();
-    for _ in 0..count {
-        let e = 1 + random.below(6);
-        vertices.push((e as u32, 3 + random.below(22) as u32));
-    }
-    let mut edges = Vec::new();
-    for pair in 0..count * count {
-        if random.below(3) == 0 {
-            let (from, to) = (pair / count, pair % count);
-            let p = vertices[from].1 + random.below(8) as u32;
-            edges.push((from, to, p));
-        }
-    }
-    task(&vertices, &edges)
 }

@@ -139,6 +139,19 @@ pub fn with_length(bytes: &[u8]) -> Vec<u8> {
     [&length.to_be_bytes(), bytes].concat()
 }
 
+/// The texts of a sequence.
+pub fn texts_of(sequence: &[u8]) -> Vec<Vec<u8>> {
+    let mut texts = Vec::new();
+    let mut rest = sequence;
+    while let Some((length, behind)) = rest.split_first_chunk() {
+        let (text, next) = behind.split_at(u32::from_be_bytes(*length) as usize);
+        texts.push(text.to_vec());
+        rest = next;
+    }
+    assert!(rest.is_empty());
+    texts
+}
+
 /// Runs the program with these arguments and this standard input.
 pub fn run(arguments: &[&str], input: &[u8]) -> Output {
     let mut program = Command::new(env!("CARGO_BIN_EXE_second"))

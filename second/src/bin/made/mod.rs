@@ -47,6 +47,11 @@ pub fn text(tasks: &[String]) -> String {
 pub struct Random(pub u64);
 
 impl Random {
+    /// A generator that starts from this seed, far from where it starts from the next one.
+    pub fn seeded(seed: u64) -> Random {
+        Random(seed.wrapping_mul(0x9e37_79b9_7f4a_7c15) | 1)
+    }
+
     /// A number from 0 to below the end, which is at least 1.
     pub fn below(&mut self, end: usize) -> usize {
         self.0 ^= self.0 << 13;
@@ -54,6 +59,40 @@ impl Random {
         self.0 ^= self.0 << 17;
         (self.0 >> 16) as usize % end
     }
+}
+
+/// How large the numbers of a random task are.
+pub struct Size {
+    /// The most vertices.
+    pub vertices: usize,
+    /// The largest e.
+    pub e: usize,
+    /// The least d, and how many there are.
+    pub d: (usize, usize),
+    /// How many separations there are from d on.
+    pub p: usize,
+}
+
+/// The lines of a random valid task; one in three edges is there.
+pub fn random_task(random: &mut Random, size: &Size) -> String {
+    let count = 1 + random.below(size.vertices);
+    let mut vertices = Vec::new();
+    for _ in 0..count {
+        let e = 1 + random.below(size.e);
+        let d = size.d.0 + random.below(size.d.1);
+        vertices.push((e as u32, d as u32));
+    }
+    let mut edges = Vec::new();
+    for pair in 0..count * count {
+        if random.below(3) == 0 {
+            let (from, to) = (pair / count, pair % count);
+            let p = vertices[from].1 + random.below(size.p) as u32;
+            edges.push((from, to, p));
+        }
+    }
+    // A task has at most 32 edges.
+    edges.truncate(32);
+    task(&vertices, &edges)
 }
 
 /// Changes, puts in, takes out or cuts off at a random byte of a text that has one.

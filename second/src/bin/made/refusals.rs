@@ -3,7 +3,7 @@
 use super::{bench, edge_line, task, vertex_line};
 
 /// The lines of a small valid text: two vertices, two edges.
-const LINES: [&str; 6] = [
+pub const LINES: [&str; 6] = [
     "010202\n",
     "0200020005\n",
     "0200010006\n",
@@ -23,7 +23,7 @@ pub fn add(texts: &mut Vec<Vec<u8>>) {
 }
 
 /// The valid lines with one of them, from 1, replaced.
-fn with(line: usize, replacement: &str) -> Vec<u8> {
+pub fn with(line: usize, replacement: &str) -> Vec<u8> {
     let mut lines = LINES;
     lines[line - 1] = replacement;
     lines.concat().into_bytes()

@@ -1,0 +1,164 @@
+//! Writes the texts that the desk is checked with: a sequence as `second many` reads it.
+//!
+//! The bench examples, every refusal of a text, inputs around the longest, and random texts, whole and damaged. The sequence is the
+//! same from run to run. A first argument gives the random part another seed; with a second one, only so many random texts are written.
+
+#![forbid(unsafe_code)]
+
+mod made;
+
+use made::{bench, damage, random_task, refusals, task, text, Random, Size};
+use second::bounds::INPUT_BYTES;
+use second::sequence::write_sequence;
+use std::env;
+use std::io;
+
+/// The random part's own seed.
+const SEED: u64 = 20_261_115;
+/// How many random texts are written.
+const RANDOM_TEXTS: u64 = 280;
+/// One random text of so many has a vertex with many groups to examine.
+const ONE_CROWDED_OF: usize = 6;
+
+/// A few short paths; close releases, so many paths; and long deadlines, which need many work cells.
+const SIZES: [Size; 3] = [
+    Size {
+        vertices: 4,
+        e: 6,
+        d: (3, 22),
+        p: 8,
+    },
+    Size {
+        vertices: 3,
+        e: 3,
+        d: (1, 18),
+        p: 3,
+    },
+    Size {
+        vertices: 6,
+        e: 40,
+        d: (20, 181),
+        p: 120,
+    },
+];
+
+/// Writes all texts, or as many random ones as the arguments say.
+fn main() -> io::Result<()> {
+    let numbers: Result<Vec<u64>, _> = env::args().skip(1).map(|word| word.parse()).collect();
+    let texts = match numbers.as_deref() {
+        Ok([]) => all_texts(SEED),
+        Ok([seed]) => all_texts(*seed),
+        Ok([seed, count]) => random_texts(*seed, *count),
+        _ => return Err(io::Error::other("usage: texts_for_desk [SEED [COUNT]]")),
+    };
+    write_sequence(&texts)
+}
+
+/// Every text.
+fn all_texts(seed: u64) -> Vec<Vec<u8>> {
+    let mut texts: Vec<_> = bench::texts().into_iter().map(String::into_bytes).collect();
+    refusals::add(&mut texts);
+    long_inputs(&mut texts);
+    for (n, last_e) in [(11, 1), (12, 1), (11, 2), (12, 2)] {
+        texts.push(every_group(n, last_e).into_bytes());
+    }
+    texts.extend(random_texts(seed, RANDOM_TEXTS));
+    texts
+}
+
+/// Inputs of the longest length, one more, and far more: with bytes after a valid text, and without any line feed.
+fn long_inputs(texts: &mut Vec<Vec<u8>>) {
+    for bytes in [INPUT_BYTES, INPUT_BYTES + 1, 9_000] {
+        let mut valid = bench::r1(2).into_bytes();
+        valid.resize(bytes, b'\n');
+        texts.push(valid);
+        texts.push(vec![b'0'; bytes]);
+    }
+}
+
+/// Four tasks of n equal vertices, then one whose three paths overload only together: all 6 n^4 - 1 groups are examined.
+///
+/// The first task's last vertex has an e of its own: with 2, the choices that overload are among the last.
+fn every_group(n: usize, last_e: u32) -> String {
+    let mut tasks = vec![task(&vec![(1, 9); n], &[]); 4];
+    let mut vertices = vec![(1, 9); n];
+    vertices[n - 1].0 = last_e;
+    tasks[0] = task(&vertices, &[]);
+    tasks.push(task(&[(3, 9), (1, 6), (4, 9)], &[(1, 2, 6)]));
+    tasks.push(task(&[(1, 9)], &[]));
+    text(&tasks)
+}
+
+/// So many random texts from a seed.
+fn random_texts(seed: u64, count: u64) -> Vec<Vec<u8>> {
+    let mut random = Random::seeded(seed);
+    (0..count).map(|_| random_text(&mut random)).collect()
+}
+
+/// A random table's text, whole or damaged in one to three ways.
+fn random_text(random: &mut Random) -> Vec<u8> {
+    if random.below(ONE_CROWDED_OF) == 0 {
+        return crowded(random).into_bytes();
+    }
+    let mut text = String::new();
+    for _ in 0..=random.below(5) {
+        let size = &SIZES[random.below(SIZES.len())];
+        text += &random_task(random, size);
+    }
+    text += "00\n";
+    if random.below(2) == 0 {
+        return text.into_bytes();
+    }
+    if random.below(2) == 0 {
+        text = with_a_line_moved(random, &text);
+    }
+    let mut text = text.into_bytes();
+    for _ in 0..random.below(3) {
+        if !text.is_empty() {
+            damage(random, &mut text);
+        }
+    }
+    text
+}
+
+/// The text with one line taken out, put somewhere else, or doubled there; or as it is.
+fn with_a_line_moved(random: &mut Random, text: &str) -> String {
+    let mut lines: Vec<_> = text.split_inclusive('\n').collect();
+    let at = random.below(lines.len());
+    let line = lines[at];
+    if random.below(3) > 0 {
+        lines.remove(at);
+    }
+    if random.below(3) > 0 {
+        lines.insert(random.below(lines.len() + 1), line);
+    }
+    lines.concat()
+}
+
+/// A random table's text whose last vertex meets after many groups; at times one more path makes it miss, or leave groups out.
+///
+/// The first tasks have alike vertices. Let x be the judged e and one of each of them. The task below them has three paths, and x with
+/// each of them leaves a tick free: with (0), of a, tick d; with (1,2), of 1 and after p of b more, tick p; with (2), of b, tick d. But x
+/// with (0) and (1,2) in one range leaves none, so that all groups of the first tasks' paths are examined with them.
+fn crowded(random: &mut Random) -> String {
+    let mut tasks = Vec::new();
+    let mut x = 1 + random.below(4) as u32;
+    let e = x;
+    for _ in 0..random.below(6) {
+        let alike = 1 + random.below(2) as u32;
+        x += alike;
+        let mut vertices = vec![(alike, 20); 1 + random.below(12)];
+        if random.below(4) == 0 {
+            // One path that is lighter or heavier, if not alike.
+            let at = random.below(vertices.len());
+            vertices[at].0 = 1 + random.below(3) as u32;
+        }
+        tasks.push(task(&vertices, &[]));
+    }
+    let a = 2 + random.below(3) as u32;
+    let b = a + random.below(4) as u32;
+    let p = x + 1 + random.below(a as usize - 1) as u32;
+    tasks.push(task(&[(a, 20), (1, p), (b, 20)], &[(1, 2, p)]));
+    tasks.push(task(&[(e, x + b)], &[]));
+    text(&tasks)
+}

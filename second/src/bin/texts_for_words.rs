@@ -1,0 +1,124 @@
+//! Writes the texts that the words for people are checked with: a sequence as `second words` reads it.
+//!
+//! The files that the arguments name, the bench examples, faulty lines of every kind, each verdict, and random tables. The sequence is
+//! the same from run to run.
+
+#![forbid(unsafe_code)]
+
+mod made;
+
+use made::refusals::{with, LINES};
+use made::{bench, random_task, self_edge, task, text, Random, Size};
+use second::bounds::INPUT_BYTES;
+use second::sequence::write_sequence;
+use std::{env, fs, io};
+
+/// How many random tables are written.
+const RANDOM_TABLES: usize = 20;
+/// Random tasks with a few short paths.
+const SIZE: Size = Size {
+    vertices: 3,
+    e: 5,
+    d: (2, 18),
+    p: 6,
+};
+
+/// Writes each text, preceded by its length in 4 bytes.
+fn main() -> io::Result<()> {
+    let files: io::Result<Vec<_>> = env::args_os().skip(1).map(fs::read).collect();
+    let mut texts = files?;
+    texts.extend(bench::texts().into_iter().map(String::into_bytes));
+    lines(&mut texts);
+    rules(&mut texts);
+    ends(&mut texts);
+    verdicts(&mut texts);
+    random(&mut texts);
+    write_sequence(&texts)
+}
+
+/// Refusal 1 with lines that can't be shown as they are: empty, unseen bytes, the backslash, and lines around the longest shown.
+fn lines(texts: &mut Vec<Vec<u8>>) {
+    for line in [
+        "\n",
+        "\r\n",
+        "0200010006\r\n",
+        " \t\0\u{1b}\u{1f}\u{7f}\n",
+        "\u{80}é\n",
+        "0200\\n0006\n",
+        "\\x5c\n",
+        "0200 1~006!\"'`\n",
+        "020001000A\n",
+        "02000100060\n",
+    ] {
+        texts.push(with(3, line));
+    }
+    let every_byte: Vec<_> = (0..=255).filter(|&byte| byte != b'\n').collect();
+    texts.extend(every_byte.chunks(60).map(<[u8]>::to_vec));
+    for bytes in [59, 60, 61, 62, 200] {
+        texts.push(with(1, &("0".repeat(bytes - 1) + "g\n")));
+        texts.push(vec![b'\\'; bytes]);
+    }
+}
+
+/// Refusals 2 to 5.
+fn rules(texts: &mut Vec<Vec<u8>>) {
+    for (line, faulty) in [
+        (1, "00\n"),
+        (2, "0300000005\n"),
+        (6, "0000\n"),
+        (1, "010d02\n"),
+        (3, "02000100c9\n"),
+        (4, "0300020005\n"),
+        (4, "0300010004\n"),
+        (5, "0300010006\n"),
+        (5, "0300000005\n"),
+    ] {
+        texts.push(with(line, faulty));
+    }
+    texts.push(with(2, &("02".repeat(31) + "\n")));
+    let ninth = task(&[(1, 1)], &[]).repeat(9);
+    texts.push(ninth.into_bytes());
+}
+
+/// Refusals 6, 7 and 12.
+fn ends(texts: &mut Vec<Vec<u8>>) {
+    for count in 1..LINES.len() {
+        texts.push(LINES[..count].concat().into_bytes());
+    }
+    for more in ["\n", "\n00\n", "0", "00\n", "\\", "\0"] {
+        texts.push((LINES.concat() + more).into_bytes());
+    }
+    for bytes in [INPUT_BYTES, INPUT_BYTES + 1] {
+        let mut text = LINES.concat().into_bytes();
+        text.resize(bytes, b'f');
+        texts.push(text);
+    }
+}
+
+/// Refusal 9 of a task that isn't the first, refusal 10, one tick and one group, and the longest paths.
+fn verdicts(texts: &mut Vec<Vec<u8>>) {
+    let few = self_edge(1, 5, 5);
+    let below = task(&[(1, 31), (40, 21)], &[]);
+    let mut longest = vec![self_edge(1, 1, 1); 7];
+    longest.push(task(&[(1, 200)], &[]));
+    let mut cells = vec![bench::r10(4); 4];
+    cells.push(task(&[(1, 21), (1, 20)], &[]));
+    let tables = [
+        vec![few, bench::r10(4), below],
+        cells,
+        vec![task(&[(1, 1), (2, 1), (3, 1)], &[]), task(&[(1, 1)], &[])],
+        longest,
+    ];
+    texts.extend(tables.map(|tasks| text(&tasks).into_bytes()));
+}
+
+/// Random tables of up to four tasks.
+fn random(texts: &mut Vec<Vec<u8>>) {
+    let mut random = Random(20_261_117);
+    for _ in 0..RANDOM_TABLES {
+        let tasks: Vec<_> = (0..=random.below(4))
+            .map(|_| random_task(&mut random, &SIZE))
+            .collect();
+        texts.push(text(&tasks).into_bytes());
+    }
+}
