@@ -9,6 +9,9 @@ use crate::table::{Table, Task, TaskNo, Ticks, Vertex};
 /// How many bytes of a faulty line are shown, at most.
 const SHOWN_BYTES: usize = 60;
 
+/// The last line where no table was read.
+const UNREAD: &str = "This may NOT go out: the table can't be read, so nothing was judged.\n";
+
 /// The words for an input: a line for each vertex and what follows from them, or why nothing was judged.
 pub fn words(input: &[u8]) -> String {
     match desk::read(input) {
@@ -36,19 +39,11 @@ fn refusal_words(input: &[u8], refusal: &Refusal) -> String {
         // Of the other rows, only 12 refuses before a vertex is judged.
         _ => {
             let reason = format!("the input is longer than {INPUT_BYTES} bytes");
-            return format!("REFUSED ({number}): {reason}\n{}", unread());
+            return format!("REFUSED ({number}): {reason}\n{UNREAD}");
         }
     };
     let shown = shown_line(input, line);
-    format!(
-        "REFUSED ({number}) at line {line}: {rule}\n    {shown}\n{}",
-        unread()
-    )
-}
-
-/// The last line where no table was read.
-fn unread() -> &'static str {
-    "This may NOT go out: the table can't be read, so nothing was judged.\n"
+    format!("REFUSED ({number}) at line {line}: {rule}\n    {shown}\n{UNREAD}")
 }
 
 /// A line of a text, from 1, as far as it is shown.

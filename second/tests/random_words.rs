@@ -1,0 +1,139 @@
+//! The words of random tables against the desk's frames, their numbers worked out by document 01's definitions.
+
+mod common;
+
+use common::definitions::{count_paths, load, spans};
+use common::random::{table, Random, Size};
+use common::{text, Task};
+use second::desk;
+use second::words::words;
+
+/// Tables in which every verdict of the desk but unfinished is frequent.
+const SIZE: Size = Size {
+    tasks: 8,
+    vertices: 8,
+    edges: 12,
+    e: 9,
+    d: 200,
+    p: 200,
+};
+
+#[test]
+fn words_say_what_the_frames_say() {
+    let mut random = Random(6);
+    let mut said = String::new();
+    for _ in 0..1_000 {
+        let tasks = table(&mut random, &SIZE);
+        let found = words(text(&tasks).as_bytes());
+        assert_eq!(found, expected(&tasks));
+        said += &found;
+    }
+    let often = |part: &str| assert!(said.matches(part).count() > 100, "{part}");
+    often(": meets its");
+    often("examined), shown by");
+    often("help:");
+    often("REFUSED (9): task 0");
+    often("REFUSED (9): task 1");
+    often("REFUSED (10): ");
+    often(", vertex 5 at tick ");
+    often("This may go out");
+}
+
+/// The words that the desk's frames for these tasks amount to.
+fn expected(tasks: &[Task]) -> String {
+    let output = desk::output(text(tasks).as_bytes());
+    let frames: Vec<Vec<usize>> = output.lines().map(numbers).collect();
+    let mut words = String::new();
+    let mut rest = &frames[..];
+    while let [frame, next @ ..] = rest {
+        let misses = frame[0] == 0x10 && frame[3] == 1;
+        let paths = if misses { frame[1] } else { 0 };
+        words += &match frame[0] {
+            0x10 => vertex_words(tasks, frame, &next[..paths]),
+            _ => last_words(frame),
+        };
+        rest = &next[paths..];
+    }
+    words
+}
+
+/// The bytes of a frame's line.
+fn numbers(line: &str) -> Vec<usize> {
+    let byte = |at: usize| usize::from_str_radix(&line[at..at + 2], 16).unwrap();
+    (0..line.len()).step_by(2).map(byte).collect()
+}
+
+/// The words for a vertex's frame and, after a miss, the frames of the paths.
+fn vertex_words(tasks: &[Task], frame: &[usize], paths: &[Vec<usize>]) -> String {
+    let (number, vertex) = (frame[1], frame[2]);
+    let (e, d) = tasks[number].vertices[vertex];
+    let count = frame[4..].iter().fold(0, |n, byte| n * 256 + byte);
+    let start = format!("task {number}, vertex {vertex}: ");
+    let deadline = format!(
+        "its deadline of {} ({} examined)",
+        plural(d, "tick"),
+        plural(count as u32, "group")
+    );
+    let higher = &tasks[..number];
+    match (frame[3], count, number) {
+        (0, ..) => format!("{start}meets {deadline}\n"),
+        (1, _, 0) => {
+            let due = due_words(e, e, d);
+            format!("{start}MISSES {deadline} with no other task's help:\n{due}")
+        }
+        (1, ..) => {
+            let releases: String = paths.iter().map(|path| path_words(higher, path)).collect();
+            let load = |path: &Vec<usize>| load(&tasks[path[1]], &path[3..], d);
+            let due = due_words(e + paths.iter().map(load).sum::<u32>(), e, d);
+            format!("{start}MISSES {deadline}, shown by these releases:\n{releases}{due}")
+        }
+        (3, 9, _) => {
+            let many = higher.iter().position(|task| count_paths(task, d) > 64);
+            let many = many.unwrap();
+            format!("{start}REFUSED (9): task {many} has more than 64 complete paths, so this was not judged\n")
+        }
+        (3, 10, _) => {
+            let ranges = |task| 2 * count_paths(task, d) - 1;
+            let cells = u128::from(d) * higher.iter().map(ranges).sum::<u128>();
+            format!("{start}REFUSED (10): {cells} work cells are needed and there are 8192, so this was not judged\n")
+        }
+        _ => panic!("{frame:?}"),
+    }
+}
+
+/// The line of a path's frame.
+fn path_words(higher: &[Task], frame: &[usize]) -> String {
+    let spans = spans(&higher[frame[1]], &frame[3..]).unwrap();
+    let at = |(vertex, span): (&usize, &u32)| format!("vertex {vertex} at tick {span}");
+    let releases: Vec<_> = frame[3..].iter().zip(&spans).map(at).collect();
+    format!("    task {}: {}\n", frame[1], releases.join(", "))
+}
+
+/// The line of the work that is due by the deadline.
+fn due_words(due: u32, own: u32, d: u32) -> String {
+    let over = plural(due - d, "tick");
+    format!(
+        "    {due} ticks of work are due by the deadline, {own} of them its own: {over} too many\n"
+    )
+}
+
+/// The last two lines, from the frame of the counts.
+fn last_words(frame: &[usize]) -> String {
+    let [0x1f, meets, misses, unfinished, refused] = *frame else {
+        panic!("{frame:?}");
+    };
+    let sentence = match (misses, unfinished + refused) {
+        (0, 0) => "may go out: every job type meets its deadline",
+        (0, _) => "may NOT go out: not every job type was shown to meet its deadline",
+        _ => "may NOT go out: a job type misses its deadline",
+    };
+    format!("meets {meets}, misses {misses}, unfinished {unfinished}, refused {refused}\nThis {sentence}.\n")
+}
+
+/// A number and what it counts.
+fn plural(number: u32, name: &str) -> String {
+    match number {
+        1 => format!("1 {name}"),
+        _ => format!("{number} {name}s"),
+    }
+}
