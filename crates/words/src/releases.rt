@@ -1,0 +1,118 @@
+// The releases that show a miss, out of the witness area: "per higher task in order, the path's length and vertices".
+use crate::numbers::sum;
+use crate::print::end_line;
+use crate::print::say;
+use crate::print::say_number;
+use crate::print::say_size;
+use table::Edge;
+use table::Table;
+use table::Task;
+ghost use Prim.Native.Nat.{_+_, _≤_, _<_};
+ghost use lib.ListN.{length};
+
+fn wide(cell: u16) -> usize {
+    cell as usize
+}
+
+fn execution(task: Task, v: usize) -> u32 {
+    if 12 <= v {
+        return 0;
+    }
+    let job = task.vertices[v];
+    job.e.0 as u32
+}
+
+fn leads(edge: Edge, from: usize, to: usize) -> bool {
+    if edge.from.0 as usize != from {
+        return false;
+    }
+    edge.to.0 as usize == to
+}
+
+// The separation of the edge from one vertex to another; a path has an edge between each two.
+fn separation(task: Task, from: usize, to: usize) -> u32 {
+    let mut i: usize = 0;
+    while i < 32 {
+        let edge = task.edges[i];
+        if leads(edge, from, to) {
+            return edge.p.0 as u32;
+        }
+        i += 1;
+    }
+    0
+}
+
+// How much later than the release before it a path's release i is.
+fn wait_before(task: Task, path: &[u16], i: usize) -> u32
+    requires { ⌜ i < length (now path) ⌝ }
+{
+    if i == 0 {
+        return 0;
+    }
+    separation(task, wide(path[i - 1]), wide(path[i]))
+}
+
+fn say_release(i: usize, v: usize, tick: u32) {
+    if i != 0 {
+        say(b", ");
+    }
+    say(b"vertex ");
+    say_size(v);
+    say(b" at tick ");
+    say_number(tick);
+}
+
+// One path's releases; gives its load, which for a complete path is the total e of its vertices.
+fn say_path(task: Task, path: &[u16]) -> u32 {
+    let mut load: u32 = 0;
+    let mut tick: u32 = 0;
+    let mut i: usize = 0;
+    while i < path.len() {
+        let v = wide(path[i]);
+        tick = sum(tick, wait_before(task, path, i));
+        say_release(i, v, tick);
+        load = sum(load, execution(task, v));
+        i += 1;
+    }
+    load
+}
+
+// Where the path whose length stands at `at` ends: the cells' end where they break off.
+fn path_end(cells: &[u16], at: usize) -> usize
+    requires { ⌜ at < length (now cells) ⌝ }
+    ensures { λ r. ⌜ (at + 1 ≤ r) × (r ≤ length (now (cells .entry))) ⌝ }
+{
+    let from = at + 1;
+    let len = wide(cells[at]);
+    if cells.len() - from < len {
+        return cells.len();
+    }
+    from + len
+}
+
+fn say_task(j: usize) {
+    say(b"    task ");
+    say_size(j);
+    say(b": ");
+}
+
+// The paths of a miss, a line each; gives their loads together.
+pub(crate) fn say_releases(table: Table, cells: &[u16]) -> u32 {
+    let mut loads: u32 = 0;
+    let mut at: usize = 0;
+    let mut j: usize = 0;
+    while at < cells.len() {
+        if j == 8 {
+            return loads;
+        }
+        let task = table.tasks[j];
+        let from = at + 1;
+        let end = path_end(cells, at);
+        say_task(j);
+        loads = sum(loads, say_path(task, &cells[from..end]));
+        end_line();
+        at = end;
+        j += 1;
+    }
+    loads
+}
