@@ -1,8 +1,9 @@
-// The desk program's verdicts, in words for people. "It reads standard input into 8,192 bytes, lends 8,192 work cells and 1,407 witness cells, and
-// uses budget 100,000."
+// The desk program's verdicts, in words for people: a line for each vertex, after a miss the releases that show it, then the counts and whether the
+// table may go out. "It reads standard input into 8,192 bytes, lends 8,192 work cells and 1,407 witness cells, and uses budget 100,000."
 //
 // With the argument `many`, standard input is a sequence of texts, each preceded by its length in 4 bytes, high byte first; the words of each text are
 // followed by an empty line.
+mod bounds;
 mod counts;
 mod line;
 mod numbers;
@@ -20,9 +21,10 @@ use reader::Status;
 use reader::read;
 use sequences::text_end;
 
+// A text of more bytes fills the input's 8,192, and more may follow.
 const MOST_BYTES: usize = 8191;
 
-// "A refused text or input gives only" its refusal.
+// "A refused text or input gives only" its refusal, and "12 is checked before all".
 fn say_text(text: &[u8], work: &mut [u32], witness: &mut [u16]) {
     if MOST_BYTES < text.len() {
         say_too_long();
@@ -49,19 +51,19 @@ fn say_texts(bytes: &[u8], work: &mut [u32], witness: &mut [u16]) {
     }
 }
 
-fn one(work: &mut [u32], witness: &mut [u16]) {
+fn say_input(work: &mut [u32], witness: &mut [u16]) {
     let mut bytes = [0u8; 8192];
     let n = io::read_full(0, &mut bytes);
     say_text(&bytes[..n], work, witness);
 }
 
-fn many(work: &mut [u32], witness: &mut [u16]) {
+fn say_sequence(work: &mut [u32], witness: &mut [u16]) {
     let mut bytes = [0u8; 262144];
     let n = io::read_full(0, &mut bytes);
     say_texts(&bytes[..n], work, witness);
 }
 
-// Whether the program's first argument is `many`. A longer one counts as none.
+// Whether the program's first argument is `many`; one that is longer doesn't fit, and has length 0.
 fn is_many() -> bool {
     let mut word = [0u8; 4];
     let n = os::arg(1, &mut word);
@@ -84,8 +86,8 @@ fn main() {
     let mut work = [0u32; 8192];
     let mut witness = [0u16; 1407];
     if is_many() {
-        many(&mut work, &mut witness);
+        say_sequence(&mut work, &mut witness);
         return;
     }
-    one(&mut work, &mut witness);
+    say_input(&mut work, &mut witness);
 }

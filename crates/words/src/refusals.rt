@@ -11,13 +11,12 @@ fn say_not_judged() {
     say(b"This may NOT go out: the table can't be read, so nothing was judged.\n");
 }
 
-// "12 is checked before all."
 pub(crate) fn say_too_long() {
     say(b"REFUSED (12): the input is longer than 8191 bytes\n");
     say_not_judged();
 }
 
-// The rows that a text can be refused by; the others are not its own.
+// The rows that refuse a text, 1 to 7.
 fn say_row(refusal: Refusal) {
     match refusal {
         Refusal::BadLine => {

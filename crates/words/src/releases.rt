@@ -1,4 +1,7 @@
 // The releases that show a miss, out of the witness area: "per higher task in order, the path's length and vertices".
+use crate::bounds::MOST_EDGES;
+use crate::bounds::MOST_TASKS;
+use crate::bounds::MOST_VERTICES;
 use crate::numbers::sum;
 use crate::print::end_line;
 use crate::print::say;
@@ -15,7 +18,7 @@ fn wide(cell: u16) -> usize {
 }
 
 fn execution(task: Task, v: usize) -> u32 {
-    if 12 <= v {
+    if MOST_VERTICES <= v {
         return 0;
     }
     let job = task.vertices[v];
@@ -29,10 +32,10 @@ fn leads(edge: Edge, from: usize, to: usize) -> bool {
     edge.to.0 as usize == to
 }
 
-// The separation of the edge from one vertex to another; a path has an edge between each two.
+// The separation of the edge from one vertex to another: "each next one by an edge".
 fn separation(task: Task, from: usize, to: usize) -> u32 {
     let mut i: usize = 0;
-    while i < 32 {
+    while i < MOST_EDGES {
         let edge = task.edges[i];
         if leads(edge, from, to) {
             return edge.p.0 as u32;
@@ -62,7 +65,7 @@ fn say_release(i: usize, v: usize, tick: u32) {
     say_number(tick);
 }
 
-// One path's releases; gives its load, which for a complete path is the total e of its vertices.
+// One path's releases: the first at tick 0. Gives its load at the deadline, which is the total e of its vertices, since its span is below the deadline.
 fn say_path(task: Task, path: &[u16]) -> u32 {
     let mut load: u32 = 0;
     let mut tick: u32 = 0;
@@ -102,7 +105,7 @@ pub(crate) fn say_releases(table: Table, cells: &[u16]) -> u32 {
     let mut at: usize = 0;
     let mut j: usize = 0;
     while at < cells.len() {
-        if j == 8 {
+        if j == MOST_TASKS {
             return loads;
         }
         let task = table.tasks[j];

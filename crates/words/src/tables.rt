@@ -1,4 +1,6 @@
 // A readable table: a line for each vertex, "in rising order of task and then vertex", and the counts.
+use crate::bounds::MOST_TASKS;
+use crate::bounds::MOST_VERTICES;
 use crate::counts::Counts;
 use crate::counts::counted;
 use crate::counts::no_counts;
@@ -24,6 +26,7 @@ fn say_name(task: TaskNumber, vertex: VertexNumber) {
     say(b": ");
 }
 
+// One vertex; gives its verdict, to be counted.
 fn say_vertex(
     text: &[u8],
     table: Table,
@@ -39,7 +42,7 @@ fn say_vertex(
     verdict
 }
 
-// The vertices of one task; gives the counts with them.
+// The vertices of task k; gives the counts with them.
 fn say_vertices(
     text: &[u8],
     table: Table,
@@ -54,7 +57,7 @@ fn say_vertices(
     let task = TaskNumber(k as u8);
     let mut all = counts;
     let mut v: usize = 0;
-    while v < 12 {
+    while v < MOST_VERTICES {
         if v == own.nv {
             return all;
         }
@@ -70,7 +73,7 @@ fn say_vertices(
 pub(crate) fn say_table(text: &[u8], table: Table, work: &mut [u32], witness: &mut [u16]) {
     let mut counts = no_counts();
     let mut k: usize = 0;
-    while k < 8 {
+    while k < MOST_TASKS {
         if k == table.n {
             break;
         }

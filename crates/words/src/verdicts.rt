@@ -109,6 +109,7 @@ pub(crate) fn say_verdict(
     match verdict {
         Verdict::Meets(groups) => say_meets(job.d, groups),
         Verdict::Misses(groups, cells) => {
+            // No miss writes more cells than there are.
             let n = least(cells as usize, witness.len());
             say_misses(table, job, groups, &witness[..n]);
         }
