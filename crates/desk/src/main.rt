@@ -2,7 +2,7 @@
 // what it read.
 fn main() {
     let mut input = [0u8; 8192];
-    let mut out = [0u8; judge::LONGEST_OUTPUT];
+    let mut out = judge::output_room();
     let n = io::read_full(0, &mut input);
     let end = judge::desk_output(&input[..n], &mut out);
     io::write_all(1, &out[..end]);

@@ -30,8 +30,8 @@ fn print_outputs(bytes: &[u8], out: &mut [u8]) {
 }
 
 fn main() {
-    let mut bytes = [0u8; 262144];
-    let mut out = [0u8; judge::LONGEST_OUTPUT];
+    let mut bytes = sequences::room();
+    let mut out = judge::output_room();
     let n = io::read_full(0, &mut bytes);
     print_outputs(&bytes[..n], &mut out);
 }

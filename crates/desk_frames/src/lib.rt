@@ -11,11 +11,9 @@ use kinds::Verdict;
 use kinds::VertexNumber;
 use line::put_line;
 use path::path_lines;
-ghost use mathlib.Core.Path.{_≡_};
-ghost use Prim.Native.Nat.{_+_, _*_, _≤_, _<_};
+ghost use Prim.Native.Nat.{_+_, _≤_};
 ghost use lib.ListN.{length, getD};
-ghost use Rattle.meaning.specs.Lists.{gather};
-ghost use Rattle.meaning.specs.Desk.{line, verdictFrame, countsFrame, refusalFrame, pathFrames};
+ghost use Rattle.meaning.specs.Desk.{line, verdictFrame, countsFrame, refusalFrame};
 ghost use Rattle.kinds.specs.Numbers.{refusalNumber, verdictNumbers};
 ghost use Rattle.desk_frames.specs.Lines.{Wrote, WholeShown, shownLines};
 

@@ -5,7 +5,6 @@ use mathlib.Core.List.{List}
 use lib.ListN.{length}
 use Rattle.meaning.specs.Table as Meant
 use Rattle.meaning.specs.Text.{Reading, read}
-use Rattle.meaning.specs.Verdict as Said
 use Rattle.meaning.specs.Areas.{workNeed}
 use Rattle.meaning.specs.Judge.{judged, onReading, needOf}
 use Rattle.meaning.specs.Whole.{counted, tableAnswer, tableWorkAfter}

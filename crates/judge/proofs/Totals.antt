@@ -21,11 +21,8 @@ use Rattle.kinds.specs.declared.Verdict.{Verdict}
 use Rattle.kinds.specs.declared.Verdict.the-variants.{Meets, Misses, Unfinished, Refused}
 use Rattle.kinds.specs.Numbers.{verdictNumbers}
 use Rattle.judge.specs.declared.Counts.{Counts}
-use Rattle.judge.specs.Whole.{firstPlace, nextPlace, There, meantCounts, noCounts, total, oneMore}
+use Rattle.judge.specs.Whole.{firstPlace, nextPlace, There, meantCounts, noCounts, totalOf, total, oneMore}
 use Rattle.judge.proofs.Remaining.{remaining, remaining-first, remaining-next, remaining-none}
-
-abbrev totalOf : Meant.Counts → ℕ
-totalOf n = n .meeting + n .missing + n .unfinishing + n .refusing
 
 -- ---- sums of counts
 

@@ -1,5 +1,5 @@
--- The customer's demands, said of the judging call: r is what `judge` answers and work′, wit′ are the areas as it returns. `proofs/Demands` proves each.
--- That every call returns, whatever the bytes, numbers, budget and areas, is what the check of `judge` says: it has no `requires`. Assumes nothing.
+-- The customer's demands, said of the judging calls: r is what `judge` answers and work′, wit′ are the areas as it returns. `proofs/Demands` proves each.
+-- That every call returns, whatever the bytes, numbers, budget and areas, is what the check of `judge` and `judge_table` says: they have no `requires`. Assumes nothing.
 use mathlib.Core.Path.{_≡_}
 use Prim.Native.Nat.{ℕ, _-_, _*_, _≤_, _<_}
 use mathlib.Core.List.{List, map}
@@ -10,12 +10,18 @@ use Rattle.meaning.specs.Text.{unreadable, read}
 use Rattle.meaning.specs.Paths.{Path, pathsOf}
 use Rattle.meaning.specs.Verdict.{cellsOf, deadline}
 use Rattle.meaning.specs.Areas.{written}
-use Rattle.meaning.specs.Demands.{Overloadable, First, C, Admitted}
+use Rattle.meaning.specs.Demands.{Overloadable, First, C, Admitted, vertexTotal}
 use Rattle.kinds.specs.declared.RefusedAt.{RefusedAt}
 use Rattle.kinds.specs.declared.Verdict.{Verdict}
 use Rattle.kinds.specs.declared.Verdict.the-variants.{Meets, Misses, Unfinished, Refused}
 use Rattle.kinds.specs.Numbers.{refusalNumber}
+use Rattle.desk_frames.specs.Lines.{Wrote}
+use Rattle.judge.specs.declared.Counts.{Counts}
+use Rattle.judge.specs.declared.TableVerdict.{TableVerdict}
+use Rattle.judge.specs.declared.TableVerdict.the-variants as Whole
 use Rattle.judge.specs.Judged.{Judged}
+use Rattle.judge.specs.Whole.{total, TableJudged}
+use Rattle.judge.specs.Desk.{outputInto}
 
 -- "Any bytes, any vertex number, any budget and any lent areas get an answer. A bad table is refused at its first faulty line. A refusal changes
 -- nothing in the areas lent to it."
@@ -44,7 +50,32 @@ pub record Demand3 (text : List ℕ) (ts : Table) (i v b : ℕ) (work wit : List
   pub unfinished-only : (n : ℕ) → r ≡ Unfinished n → b < C ts i v
   pub few : C ts i v ≤ 2 * product (map (λ (k : Task). length (pathsOf k (deadline ts i v))) (higher ts i)) - 1
 
--- What the statement settles: two results that satisfy it coincide, in the verdict and in every cell of both areas.
+-- ---- a whole table: r is what `judge_table` answers and work′ is the work area as it returns
+
+-- "Judging a whole table first checks the text (1 to 7, nothing changed)."
+pub record TextFirst (text work : List ℕ) (r : TableVerdict) (work′ : List ℕ) : Type 0 where
+  pub bad-table : (k n : ℕ) → read text ≡ unreadable k n → (at : RefusedAt) × (r ≡ Whole.Refused at) × (refusalNumber (at .refusal) ≡ k) × (at .place ≡ n)
+  pub unchanged : (at : RefusedAt) → r ≡ Whole.Refused at → work′ ≡ work
+
+-- "The four add up to the number of vertices, counted from the text. [..] More budget never lowers the first two counts."
+pub record FourCounts (text : List ℕ) (ts : Table) (b : ℕ) (work : List ℕ) (r : TableVerdict) : Type 0 where
+  pub counts : (c : Counts) × (r ≡ Whole.Counted c)
+  pub adds-up : (c : Counts) → r ≡ Whole.Counted c → total c ≡ vertexTotal ts
+  pub more : (c c₂ : Counts) (b₂ : ℕ) (work₂ work₂′ : List ℕ) (r₂ : TableVerdict) → b ≤ b₂ → length work₂ ≡ length work → TableJudged text b₂ work₂ r₂ work₂′
+      → r ≡ Whole.Counted c → r₂ ≡ Whole.Counted c₂ → (c .meeting ≤ c₂ .meeting) × (c .missing ≤ c₂ .missing)
+
+-- ---- what the statements settle
+
+-- Two results that satisfy the statement of a vertex's judging coincide, in the verdict and in every cell of both areas.
 abbrev pub Settled : Type 0
 Settled = (text : List ℕ) (i v b : ℕ) (work wit : List ℕ) (r s : Verdict) (work₁ wit₁ work₂ wit₂ : List ℕ)
     → Judged text i v b work wit r work₁ wit₁ → Judged text i v b work wit s work₂ wit₂ → (r ≡ s) × (work₁ ≡ work₂) × (wit₁ ≡ wit₂)
+
+-- And of a whole table's, in the counts or the refusal and in every work cell.
+abbrev pub SettledTable : Type 0
+SettledTable = (text : List ℕ) (b : ℕ) (work : List ℕ) (r s : TableVerdict) (work₁ work₂ : List ℕ)
+    → TableJudged text b work r work₁ → TableJudged text b work s work₂ → (r ≡ s) × (work₁ ≡ work₂)
+
+-- And of the desk's output, in its length and in every byte of the area.
+abbrev pub SettledOutput : Type 0
+SettledOutput = (text out : List ℕ) (r s : ℕ) (out₁ out₂ : List ℕ) → Wrote (outputInto text (length out)) out 0 out₁ r → Wrote (outputInto text (length out)) out 0 out₂ s → (r ≡ s) × (out₁ ≡ out₂)

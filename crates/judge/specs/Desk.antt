@@ -1,6 +1,7 @@
 -- The desk's whole output, in a lent area. Assumes nothing.
 use Prim.Native.Nat.{ℕ}
 use mathlib.Core.List.{List, []}
+use lib.ListN.{replicate}
 use lib.Dec.{ltb}
 use Rattle.meaning.specs.Lists.{pick, gather}
 use Rattle.meaning.specs.Table.{Table}
@@ -9,6 +10,9 @@ use Rattle.meaning.specs.Desk.{line, tableFrames, output}
 -- room for any output: 96 vertices, each with its verdict's line of 17 bytes and seven path lines of at most 407, and the counts' line of 11
 abbrev pub longestOutput : ℕ
 longestOutput = 275147
+
+unfoldable pub noOutput : List ℕ
+noOutput = replicate longestOutput 0
 
 -- the output for a readable table
 unfoldable pub tableOutput : Table → List ℕ

@@ -3,5 +3,5 @@ pub mod Stretches
 pub mod Witness
 pub mod Judged
 pub mod Whole
-pub mod Demands
 pub mod Desk
+pub mod Demands

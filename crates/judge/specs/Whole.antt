@@ -46,8 +46,12 @@ meantCounts c = record { meeting = c .meeting; missing = c .missing; unfinishing
 abbrev pub noCounts : Counts
 noCounts = record { meeting = 0; missing = 0; unfinishing = 0; refusing = 0 }
 
+-- all four together
+abbrev pub totalOf : Meant.Counts → ℕ
+totalOf n = n .meeting + n .missing + n .unfinishing + n .refusing
+
 abbrev pub total : Counts → ℕ
-total c = c .meeting + c .missing + c .unfinishing + c .refusing
+total c = totalOf (meantCounts c)
 
 -- one more of the verdict's kind
 abbrev pub oneMore : Counts → Verdict → Counts

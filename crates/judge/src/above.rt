@@ -2,7 +2,6 @@
 use kinds::Ticks;
 use lister::path_count;
 use table::Table;
-ghost use mathlib.Core.Path.{_≡_};
 ghost use Prim.Native.Nat.{_+_, _≤_, _<_};
 ghost use Rattle.meaning.specs.Bounds.{largestD};
 ghost use Rattle.meaning.specs.Table.{higher};

@@ -22,16 +22,17 @@ use kinds::Verdict;
 use kinds::VertexNumber;
 use reader::Status;
 use reader::read;
+ghost use mathlib.Core.Path.{_≡_};
 ghost use lib.ListN.{length};
 ghost use Rattle.desk_frames.specs.Lines.{Wrote};
 ghost use Rattle.judge.specs.Judged.{Judged};
 ghost use Rattle.judge.specs.Whole.{TableJudged};
-ghost use Rattle.judge.specs.Desk.{outputInto};
+ghost use Rattle.judge.specs.Desk.{longestOutput, noOutput, outputInto};
 
 // The longest input that is read as a text, and room for any output.
 const LONGEST_INPUT: usize = 8191;
 
-pub const LONGEST_OUTPUT: usize = 275147;
+const LONGEST_OUTPUT: usize = 275147;
 
 // Of a table's vertices, at most 96 in all: how many meet, miss, are unfinished and are refused.
 pub struct Counts {
@@ -79,6 +80,14 @@ pub fn judge_table(text: &[u8], budget: u32, work: &mut [u32]) -> TableVerdict
         return TableVerdict::Counted(counts);
     };
     TableVerdict::Refused(at)
+}
+
+// Room for any output. A function of its own, so that who calls it sees its length and not its cells.
+pub fn output_room() -> [u8; LONGEST_OUTPUT]
+    ensures { λ r. ⌜ r ≡ noOutput ⌝ }
+    ensures { λ r. ⌜ longestOutput ≡ length r ⌝ }
+{
+    [0; LONGEST_OUTPUT]
 }
 
 // The desk's whole output for an input, from the front of a lent area; gives its length. Nothing is written where an output might not fit.

@@ -96,7 +96,7 @@ fn judge_all(bytes: &[u8], work: &mut [u32], witness: &mut [u16]) {
 }
 
 fn main() {
-    let mut bytes = [0u8; 262144];
+    let mut bytes = sequences::room();
     let mut work = [0u32; 180000];
     let mut witness = [0u16; 1500];
     let n = io::read_full(0, &mut bytes);

@@ -9,7 +9,7 @@ use lib.Seq.{length-take-le}
 use lib.Dec.{T, ltb, ltb→lt}
 use Rattle.meaning.specs.Bounds.{mostVertices, largestD}
 use Rattle.meaning.specs.Table.{Task, Table, noTask, noVertex, taskAt, vertexAt, higher}
-use Rattle.meaning.specs.Paths.{Path, between, someEdge, linked, legal, pathsOf}
+use Rattle.meaning.specs.Paths.{Path, between, someEdge, linked, legal}
 use Rattle.meaning.specs.Verdict.{misses, deadline}
 use Rattle.meaning.specs.Judge.{judged}
 use Rattle.meaning.specs.Sound.{SoundTask, SoundTable, AllSound}

@@ -1,7 +1,16 @@
 // What a program reads that runs on many texts: a sequence of texts, each preceded by its length in 4 bytes, high byte first.
 ghost use mathlib.Core.Path.{_≡_};
 ghost use Prim.Native.Nat.{_≤_};
-ghost use Rattle.sequences.specs.Sequence.{textEnd};
+ghost use lib.ListN.{length};
+ghost use Rattle.sequences.specs.Sequence.{textEnd, zeros};
+
+// Room for a sequence. A function of its own, so that who calls it sees its length and not its cells.
+pub fn room() -> [u8; 262144]
+    ensures { λ r. ⌜ r ≡ zeros 262144 ⌝ }
+    ensures { λ r. ⌜ 262144 ≡ length r ⌝ }
+{
+    [0; 262144]
+}
 
 fn wide(b: u8) -> usize
     ensures { λ r. ⌜ (r ≡ b) × (r ≤ 255) ⌝ }

@@ -58,7 +58,7 @@ fn say_input(work: &mut [u32], witness: &mut [u16]) {
 }
 
 fn say_sequence(work: &mut [u32], witness: &mut [u16]) {
-    let mut bytes = [0u8; 262144];
+    let mut bytes = sequences::room();
     let n = io::read_full(0, &mut bytes);
     say_texts(&bytes[..n], work, witness);
 }

@@ -5,6 +5,9 @@ use borrow.Author.Needs.{needs}
 use Rattle.desk.proofs.main.Statement.{statement}
 use Rattle.desk.proofs.main.Tie as tie
 
+output-room-requires : tie.Need-output-room-requires
+output-room-requires c κs = search needs
+
 slice-aggregate-read-full : tie.Need-slice-aggregate-read-full
 slice-aggregate-read-full c = search needs
 
@@ -24,10 +27,10 @@ desk-output-requires : tie.Need-desk-output-requires
 desk-output-requires c κs = search needs
 
 array-share-prefix-out : tie.Need-array-share-prefix-out
-array-share-prefix-out c = output-within _ ((c .before .desk-output .ensures))
+array-share-prefix-out c = output-within _ (c .before .desk-output .ensures)
 
 slice-aggregate-write-all : tie.Need-slice-aggregate-write-all
-slice-aggregate-write-all c = sym (length-take-le _ _ (output-within _ ((c .before .before .desk-output .ensures))))
+slice-aggregate-write-all c = sym (length-take-le _ _ (output-within _ (c .before .before .desk-output .ensures)))
 
 write-all-requires : tie.Need-write-all-requires
 write-all-requires c κs = search needs
@@ -39,6 +42,7 @@ pub main-spec : {M : Type 1} → statement M
 main-spec =
     tie.close
     (tie.spec
+    output-room-requires
     slice-aggregate-read-full
     read-full-requires
     array-share-prefix-input

@@ -12,10 +12,10 @@ print-length-requires : tie.Need-print-length-requires
 print-length-requires c κs = search needs
 
 slice-reshare-prefix-write-all : tie.Need-slice-reshare-prefix-write-all
-slice-reshare-prefix-write-all c = output-within _ ((c .before .before .before .desk-output .ensures))
+slice-reshare-prefix-write-all c = output-within _ (c .before .before .before .desk-output .ensures)
 
 slice-aggregate-write-all : tie.Need-slice-aggregate-write-all
-slice-aggregate-write-all c = sym (length-take-le _ _ (output-within _ ((c .before .before .before .before .desk-output .ensures))))
+slice-aggregate-write-all c = sym (length-take-le _ _ (output-within _ (c .before .before .before .before .desk-output .ensures)))
 
 write-all-requires : tie.Need-write-all-requires
 write-all-requires c κs = search needs

@@ -1,5 +1,4 @@
-use native.Mathlib.Omega.{arith}
-use mathlib.Core.Path.{refl, ap}
+use mathlib.Core.Path.{ap}
 use Rattle.desk_frames.specs.Lines.{shownPaths}
 use Rattle.desk_frames.proofs.VertexLines.{verdict-asks, shown-alone, paths-ask, shown-all}
 use borrow.Author.Needs.{needs}

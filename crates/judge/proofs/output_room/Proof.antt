@@ -1,0 +1,11 @@
+use mathlib.Core.Path.{refl}
+use Rattle.judge.specs.Desk.{noOutput}
+use Rattle.judge.proofs.output_room.Statement.{statement}
+use Rattle.judge.proofs.output_room.Tie as tie
+
+returns : tie.Need-returns
+unfolding noOutput
+returns c = (refl, refl)
+
+pub output-room-spec : {M : Type 1} → statement M
+output-room-spec = tie.close (tie.spec returns)
