@@ -59,7 +59,10 @@ remaining-none ts q h =
 -- the tasks from a number on
 from-task : (ts : Table) (i : ℕ) → remaining ts (at i 0) ≡ placesFrom i (drop i ts)
 from-task ts i =
-    elim (decLt i (length ts)) [ yes h ↦ ap (λ (n : ℕ). map (at i) (countFrom 0 n) ++ placesFrom (suc i) (drop (suc i) ts)) (sub-zero (size ts i)) ∙ sym (ap (placesFrom i) (drop-cons ts i noTask h)) | no h ↦ remaining-none ts (at i 0) (omega arith) ∙ sym (ap (placesFrom i) (past i ts (omega arith))) ]
+    elim (decLt i (length ts)) [
+      | yes h ↦ ap (λ (n : ℕ). map (at i) (countFrom 0 n) ++ placesFrom (suc i) (drop (suc i) ts)) (sub-zero (size ts i)) ∙ sym (ap (placesFrom i) (drop-cons ts i noTask h))
+      | no h ↦ remaining-none ts (at i 0) (omega arith) ∙ sym (ap (placesFrom i) (past i ts (omega arith)))
+    ]
 
 pub remaining-next : (ts : Table) (q : Place) → There ts q → remaining ts q ≡ q ∷ remaining ts (nextPlace ts q)
 remaining-next ts q h = elim (decLt (v + 1) (size ts i)) [ yes l ↦ within l | no l ↦ last (omega arith) ]
@@ -87,6 +90,7 @@ remaining-next ts q h = elim (decLt (v + 1) (size ts i)) [ yes l ↦ within l | 
 
 -- ---- a loop has come to a place
 
+-- a vertex of the table, or the place behind the last
 abbrev Inside : Table → Place → Type 0
 Inside ts q = (q .task ≤ length ts) × (q .task < length ts → q .vertex < size ts (q .task))
 

@@ -68,7 +68,8 @@ pub fn judge(
     Verdict::Refused(at)
 }
 
-// "Judging a whole table first checks the text (1 to 7, nothing changed)." Of the work area as many cells become zero as some vertex not refused needs.
+// "Judging a whole table first checks the text (1 to 7, nothing changed). [..] Zeroed from the front are as many work cells as the largest need among
+// vertices not refused."
 pub fn judge_table(text: &[u8], budget: u32, work: &mut [u32]) -> TableVerdict
     ensures { λ r. ⌜ TableJudged (now (text .entry)) budget (now (work .entry)) r (now (work .exit)) ⌝ }
 {
