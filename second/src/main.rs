@@ -73,7 +73,7 @@ fn lines(of: fn(&[u8]) -> String) -> io::Result<()> {
     target.flush()
 }
 
-/// Makes the judging call of each case of a sequence: a line for each.
+/// Judges the vertex and then the whole table of each case of a sequence: two lines for each.
 fn judge() -> io::Result<()> {
     let mut source = BufReader::new(io::stdin().lock());
     let mut target = BufWriter::new(io::stdout().lock());
@@ -82,6 +82,7 @@ fn judge() -> io::Result<()> {
         let &[n3, n2, n1, n0, ..] = &header;
         case.text = next_bytes(&mut source, [n3, n2, n1, n0])?;
         target.write_all(case.judged().as_bytes())?;
+        target.write_all(case.tabled().as_bytes())?;
     }
     target.flush()
 }

@@ -28,6 +28,11 @@ fn cases(sequence: &[u8]) -> Vec<Case> {
     cases
 }
 
+/// The two lines of a case.
+fn lines(case: &Case) -> String {
+    case.judged() + &case.tabled()
+}
+
 /// A verdict's line: its three numbers, the zeroed work cells, and the witness cells; all else is unchanged.
 fn line(verdict: (u8, u32, u32), zeroed: u32, witness: &[u16]) -> String {
     let (kind, value, place) = verdict;
@@ -102,21 +107,53 @@ fn bench() -> Vec<String> {
 fn the_bench_by_the_documents_numbers() {
     let found = run(&["judge"], &sequence());
     let found = String::from_utf8(found.stdout).unwrap();
-    let lines: Vec<_> = found.split_inclusive('\n').collect();
+    let lines: Vec<_> = found.split_inclusive('\n').step_by(2).collect();
     let bench = bench();
     assert_eq!(lines[..bench.len()], bench);
 }
 
+/// A whole table's line: its four counts and the zeroed work cells; all else is unchanged.
+fn counted(counts: [u8; 4], zeroed: u32) -> String {
+    let [meets, misses, unfinished, refused] = counts;
+    format!("1f{meets:02x}{misses:02x}{unfinished:02x}{refused:02x}{zeroed:08x}01\n")
+}
+
 #[test]
-fn a_line_for_each_case() {
+fn the_whole_table_by_the_documents_numbers() {
+    let found = run(&["judge"], &sequence());
+    let found = String::from_utf8(found.stdout).unwrap();
+    let lines: Vec<_> = found.split_inclusive('\n').skip(1).step_by(2).collect();
+    // R1, R2: the third task needs most.
+    assert_eq!(lines[2], counted([2, 1, 0, 0], 12));
+    assert_eq!(lines[3], counted([3, 0, 0, 0], 12));
+    // R7, R8: the three vertices above need no cells and one group each.
+    assert_eq!(lines[10], counted([4, 0, 0, 0], 25));
+    assert_eq!(lines[11], counted([0, 0, 4, 0], 25));
+    assert_eq!(lines[12], counted([3, 0, 1, 0], 25));
+    assert_eq!(lines[13], counted([4, 0, 0, 0], 25));
+    // R9: with 24 cells the last vertex is refused, and no other needs any; no witness area is lent.
+    assert_eq!(lines[15], counted([3, 0, 0, 1], 0));
+    assert_eq!(lines[18], counted([4, 0, 0, 0], 25));
+    // R11
+    let refused = [
+        "1e0600010000000001\n",
+        "1e0200010000000001\n",
+        "1e0100010000000001\n",
+    ];
+    let last = bench().len();
+    assert_eq!(lines[last - 3..last], refused);
+}
+
+#[test]
+fn two_lines_for_each_case() {
     let sequence = sequence();
     let cases = cases(&sequence);
     let bytes: Vec<u8> = cases.iter().flat_map(Case::bytes).collect();
     assert_eq!(bytes, sequence);
-    let lines: String = cases.iter().map(Case::judged).collect();
+    let lines: String = cases.iter().map(lines).collect();
     let found = run(&["judge"], &sequence);
     assert_eq!(found.status.code(), Some(0));
-    assert_eq!(found.stdout, lines.as_bytes());
+    assert!(found.stdout == lines.as_bytes());
     assert!(found.stderr.is_empty());
 }
 
@@ -171,8 +208,8 @@ fn a_broken_sequence_of_cases() {
         witness: 14,
         text: text(&r1(2)).into_bytes(),
     };
-    let (line, whole) = (whole.judged(), whole.bytes());
-    assert_eq!(run(&["judge"], &whole).stdout, line.as_bytes());
+    let (lines, whole) = (lines(&whole), whole.bytes());
+    assert_eq!(run(&["judge"], &whole).stdout, lines.as_bytes());
     for end in 1..whole.len() {
         let broken = &whole[..end];
         for sequence in [broken.to_vec(), [&whole, broken].concat()] {

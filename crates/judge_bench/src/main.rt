@@ -1,10 +1,12 @@
 // "The rest are run and compared, also with an independent second program."
 //
 // Judges many cases in one run. Standard input is a sequence of cases, each a header and then the text. The header, high bytes first: the text's
-// length (4 bytes), task (1), vertex (1), budget (4), work cells (4), witness cells (4). A line is written for each: the verdict's number (1), its
-// count, budget or refusal number (4), its cells or place (4), then what is in the two areas.
+// length (4 bytes), task (1), vertex (1), budget (4), work cells (4), witness cells (4). Two lines are written for each. The vertex: the verdict's number
+// (1), its count, budget or refusal number (4), its cells or place (4), then what is in the two areas. The whole table, with the same budget and as many
+// work cells: the desk's last frame or its frame of a refused text, then what is in the work area.
 mod areas;
 
+use judge::TableVerdict;
 use kinds::TaskNumber;
 use kinds::Verdict;
 use kinds::VertexNumber;
@@ -57,6 +59,34 @@ fn print_verdict(verdict: Verdict) {
     io::print_hex(1, kinds::verdict_place(verdict) as u64, 8);
 }
 
+fn print_table_verdict(verdict: TableVerdict) {
+    match verdict {
+        TableVerdict::Counted(counts) => {
+            io::write_all(1, b"1f");
+            io::print_hex(1, counts.meeting as u64, 2);
+            io::print_hex(1, counts.missing as u64, 2);
+            io::print_hex(1, counts.unfinishing as u64, 2);
+            io::print_hex(1, counts.refusing as u64, 2);
+        }
+        TableVerdict::Refused(at) => {
+            let refusal = at.refusal;
+            io::write_all(1, b"1e");
+            io::print_hex(1, kinds::refusal_number(refusal) as u64, 2);
+            io::print_hex(1, at.place as u64, 4);
+        }
+    }
+}
+
+fn judge_whole(header: &[u8], text: &[u8], work: &mut [u32])
+    requires { ⌜ length (now header) ≡ 18 ⌝ }
+{
+    areas::mark_work(work);
+    let budget = number(header, 6) as u32;
+    print_table_verdict(judge::judge_table(text, budget, work));
+    areas::print_work(work);
+    io::write_all(1, b"\n");
+}
+
 fn judge_in(header: &[u8], text: &[u8], work: &mut [u32], witness: &mut [u16])
     requires { ⌜ length (now header) ≡ 18 ⌝ }
 {
@@ -69,6 +99,7 @@ fn judge_in(header: &[u8], text: &[u8], work: &mut [u32], witness: &mut [u16])
     areas::print_work(work);
     areas::print_witness(witness);
     io::write_all(1, b"\n");
+    judge_whole(header, text, work);
 }
 
 // A case that asks for more cells than there are gets all of them.
