@@ -17,7 +17,7 @@ use Rattle.reader.proofs.Result.{TableRead, LineRefused}
 use Rattle.judge.specs.declared.Counts.{Counts}
 use Rattle.judge.specs.declared.TableVerdict.{TableVerdict}
 use Rattle.judge.specs.declared.TableVerdict.the-variants as Whole
-use Rattle.judge.specs.Above.{Held}
+use Rattle.areas.specs.Above.{Held}
 use Rattle.judge.specs.Judged.{Answered, Judged}
 use Rattle.judge.specs.Whole.{TableCounted, answerOf, TableJudged}
 

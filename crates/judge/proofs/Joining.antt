@@ -27,11 +27,11 @@ use Rattle.walk.specs.Lent.{Walkable}
 use Rattle.walk.specs.Told.{sizes, RowsHold}
 use Rattle.table.specs.declared.Table.{Table}
 use Rattle.table.specs.Record.{tableOf}
-use Rattle.judge.specs.declared.above.Above.{Above}
-use Rattle.judge.specs.Above.{Held, pathCounts, Counted}
-use Rattle.judge.specs.Stretches.{stretches}
-use Rattle.judge.proofs.Records.{held-count, held-sound}
-use Rattle.judge.proofs.Filling.{at, rows-all, sofar-length, stretches-size}
+use Rattle.areas.specs.declared.above.Above.{Above}
+use Rattle.areas.specs.Above.{Held, pathCounts, Counted}
+use Rattle.areas.specs.Stretches.{stretches}
+use Rattle.areas.proofs.Records.{held-count, held-sound}
+use Rattle.areas.proofs.Filling.{at, rows-all, sofar-length, stretches-size}
 
 -- a cell of the j-th of lists that stand one after the other
 getD-gather : (f : Meant.Task → List ℕ) (xs : List Meant.Task) (j i : ℕ) → j < length xs → i < length (f (getD xs j noTask)) → getD (gather f xs) (length (gather f (take j xs)) + i) 0 ≡ getD (f (getD xs j noTask)) i 0

@@ -1,81 +1,33 @@
--- A vertex of a held table: its cells of the record, and the answer at each return. Assumes nothing.
+-- A vertex of a held table: the answer at each return. Assumes nothing.
 use mathlib.Core.Path.{_≡_, refl, sym, ap, ap₂, subst, _∙_}
 use Prim.Native.Nat.{ℕ, _+_, _*_, _≤_, _<_}
 use native.Mathlib.Omega.{arith}
 use native.Mathlib.Nat.{mul-le-mul}
-use mathlib.Core.List.{List, [], map}
-use lib.ListN.{length, getD, length-map}
-use Rattle.meaning.specs.Bounds.{mostVertices, largestD, largestE}
+use mathlib.Core.List.{List}
+use lib.ListN.{length}
+use Rattle.meaning.specs.Bounds.{largestD, largestE}
 use Rattle.meaning.specs.Table as Meant
-use Rattle.meaning.specs.Table.{noVertex, taskAt, vertexAt, higher}
+use Rattle.meaning.specs.Table.{taskAt, higher}
 use Rattle.meaning.specs.Verdict as Said
-use Rattle.meaning.specs.Verdict.{walked, ownE, deadline}
+use Rattle.meaning.specs.Verdict.{walked, deadline}
 use Rattle.meaning.specs.Areas.{workNeed, witnessNeed}
 use Rattle.meaning.specs.Judge.{judged}
-use Rattle.meaning.specs.Sound.{SoundVertex}
-use Rattle.meaning.proofs.Lists.{mem-getD, getD-mapped}
 use Rattle.kinds.specs.declared.Refusal.{Refusal}
 use Rattle.kinds.specs.declared.Refusal.the-variants.{NoSuchVertex, TooManyPaths, WorkTooShort, WitnessTooShort}
 use Rattle.kinds.specs.declared.Verdict as Kinds
 use Rattle.kinds.specs.declared.Verdict.the-variants as Kind
 use Rattle.kinds.specs.Numbers.{refusalNumber}
-use Rattle.table.specs.declared.Vertex.{Vertex}
-use Rattle.table.specs.declared.Task.{Task}
 use Rattle.table.specs.declared.Table.{Table}
-use Rattle.table.specs.Record.{vertexRecord, tableOf}
+use Rattle.table.specs.Record.{tableOf}
 use Rattle.table.specs.Record as Blank
-use Rattle.table.proofs.Record.{getD-padded, length-padded}
-use Rattle.judge.specs.declared.above.Above.{Above}
-use Rattle.judge.specs.Above.{Held, pathCounts, Counted}
+use Rattle.areas.specs.declared.above.Above.{Above}
+use Rattle.areas.specs.Above.{Held, pathCounts, Counted}
 use Rattle.judge.specs.Judged.{Answered}
-use Rattle.judge.proofs.Records.{held-count, held-task, held-sound}
-use Rattle.judge.proofs.Counting.{rows-fit}
-use Rattle.judge.proofs.Filling.{rows-all}
+use Rattle.areas.proofs.Records.{held-count}
+use Rattle.areas.proofs.Vertices.{ownTask, ownVertex, own-size, job-sound, job-d, job-e}
+use Rattle.areas.proofs.Counting.{rows-fit}
+use Rattle.areas.proofs.Filling.{rows-all}
 use Rattle.judge.proofs.Sheet.{none-crowded, first-crowded, need-rows, no-task, no-vertex, at-9, at-10, at-11, at-walk}
-
--- ---- the cells of the record
-
--- what is read where there is no task
-abbrev blankTask : Task
-blankTask = record { nv = 0; ne = 0; vertices = []; edges = [] }
-
-abbrev pub ownTask : Table → ℕ → Task
-ownTask t i = getD (t .tasks) i blankTask
-
-abbrev pub ownVertex : Table → ℕ → ℕ → Vertex
-ownVertex t i v = getD (ownTask t i .vertices) v Blank.noVertex
-
-module _ (t : Table) (k : Held t) (i : ℕ) (l : i < t .n) where
-  abbrev ts : Meant.Table
-  ts = tableOf t
-
-  pub own-size : ownTask t i .nv ≡ length (taskAt ts i .vertices)
-  own-size = ap (λ (x : Task). x .nv) (held-task t k blankTask i l)
-
-  pub own-few : (ownTask t i .nv ≤ mostVertices) × (length (ownTask t i .vertices) ≡ mostVertices)
-  own-few =
-      let s = held-sound t k i l .vertexCount in (
-        omega (arith, own-size),
-        ap (λ (x : Task). length (x .vertices)) (held-task t k blankTask i l) ∙ length-padded mostVertices Blank.noVertex (map vertexRecord (taskAt ts i .vertices)) (omega (arith, length-map (taskAt ts i .vertices) vertexRecord)),
-      )
-
-  module _ (v : ℕ) (m : v < ownTask t i .nv) where
-    pub job-is : ownVertex t i v ≡ vertexRecord (vertexAt (taskAt ts i) v)
-    job-is =
-        ap (λ (x : Task). getD (x .vertices) v Blank.noVertex) (held-task t k blankTask i l)
-        ∙ getD-padded mostVertices Blank.noVertex Blank.noVertex (map vertexRecord (taskAt ts i .vertices)) v (omega (arith, length-map (taskAt ts i .vertices) vertexRecord, own-size))
-        ∙ getD-mapped vertexRecord Blank.noVertex noVertex (taskAt ts i .vertices) v (omega (arith, own-size))
-
-    pub job-sound : SoundVertex (vertexAt (taskAt ts i) v)
-    job-sound = held-sound t k i l .eachVertex (vertexAt (taskAt ts i) v) (mem-getD noVertex (taskAt ts i .vertices) v (omega (arith, own-size)))
-
-    pub job-d : ownVertex t i v .d .0 ≡ deadline ts i v
-    job-d = ap (λ (x : Vertex). x .d .0) job-is
-
-    pub job-e : ownVertex t i v .e .0 ≡ ownE ts i v
-    job-e = ap (λ (x : Vertex). x .e .0) job-is
-
--- ---- the answer at each return
 
 answer-refused : (x : Said.Verdict) (ρ : Refusal) (place need : ℕ) (work wit : List ℕ) {r : Kinds.Verdict} → x ≡ Said.refused (refusalNumber ρ) place → r ≡ Kind.Refused (record { refusal = ρ; place = place }) → Answered x need work wit r work wit
 answer-refused x ρ place need work wit {r} q e =

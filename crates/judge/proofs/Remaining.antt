@@ -17,10 +17,10 @@ use Rattle.meaning.specs.Whole.{Place, placesFrom, places}
 use Rattle.meaning.proofs.Lists.{mem-getD}
 use Rattle.table.specs.declared.Table as Record
 use Rattle.table.specs.Record.{tableOf}
-use Rattle.judge.specs.Above.{Held}
+use Rattle.areas.specs.Above.{Held}
 use Rattle.judge.specs.Whole.{firstPlace, size, nextPlace, There}
-use Rattle.judge.proofs.Records.{held-count}
-use Rattle.judge.proofs.OneVertex.{ownTask, own-size, own-few}
+use Rattle.areas.proofs.Records.{held-count}
+use Rattle.areas.proofs.Vertices.{ownTask, own-size, own-few}
 
 abbrev at : ℕ → ℕ → Place
 at i v = record { task = i; vertex = v }

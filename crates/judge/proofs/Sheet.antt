@@ -19,7 +19,7 @@ use Rattle.meaning.specs.Areas.{rowsOf, workNeed, witnessNeed}
 use Rattle.meaning.specs.Judge.{Row, crowded, row8, row9, row10, row11, firstRow, unlessRefused, judged}
 use Rattle.meaning.proofs.Lists.{getD-mapped, and-false}
 use Rattle.meaning.proofs.Refusals.{row-none, row-some}
-use Rattle.judge.specs.Above.{rowsIn, pathCounts}
+use Rattle.areas.specs.Above.{rowsIn, pathCounts}
 
 -- ---- the first that passes a test, among numbers in turn
 

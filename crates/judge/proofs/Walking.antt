@@ -27,12 +27,12 @@ use Rattle.walk.specs.Steps.{runRows}
 use Rattle.walk.specs.Lent.{Walkable}
 use Rattle.walk.specs.Told.{chosen, AtPaths, Says}
 use Rattle.walk.proofs.Told.{walk-says, places-whole}
-use Rattle.judge.specs.declared.above.Above.{Above}
-use Rattle.judge.specs.Above.{Held, pathCounts, Counted}
-use Rattle.judge.specs.Stretches.{stretches}
-use Rattle.judge.specs.Witness.{pathsAt}
+use Rattle.areas.specs.declared.above.Above.{Above}
+use Rattle.areas.specs.Above.{Held, pathCounts, Counted}
+use Rattle.areas.specs.Stretches.{stretches}
+use Rattle.areas.specs.Witness.{pathsAt}
 use Rattle.judge.specs.Judged.{Answered}
-use Rattle.judge.proofs.Filling.{at}
+use Rattle.areas.proofs.Filling.{at}
 use Rattle.judge.proofs.Joining.{many, group-many, group-length, need-is, counts-are, rows-hold, walkable}
 
 -- ---- the verdict, from C and the witness

@@ -17,11 +17,11 @@ use Rattle.kinds.specs.declared.Verdict.{Verdict}
 use Rattle.table.specs.declared.Table as Record
 use Rattle.table.specs.Record.{tableOf}
 use Rattle.judge.specs.declared.Counts.{Counts}
-use Rattle.judge.specs.Above.{Held}
+use Rattle.areas.specs.Above.{Held}
 use Rattle.judge.specs.Judged.{Answered}
 use Rattle.judge.specs.Whole.{firstPlace, nextPlace, There, noCounts, oneMore, total, TableCounted}
-use Rattle.judge.proofs.Records.{held-count}
-use Rattle.judge.proofs.Fronts.{zeroed-twice}
+use Rattle.areas.proofs.Records.{held-count}
+use Rattle.areas.proofs.Fronts.{zeroed-twice}
 use Rattle.judge.proofs.Remaining.{remaining, remaining-first, remaining-next, remaining-none, Reached, reached-first, reached-there, reached-in, reached-next, reached-fewer}
 use Rattle.judge.proofs.Totals.{CountedSoFar, counted-first, counted-next, counted-all, counted-few}
 

@@ -4,7 +4,7 @@ use kinds::VertexNumber;
 use table::Table;
 ghost use mathlib.Core.Path.{_≡_};
 ghost use Rattle.table.specs.Record.{tableOf};
-ghost use Rattle.judge.specs.Above.{Held};
+ghost use Rattle.areas.specs.Above.{Held};
 ghost use Rattle.judge.specs.Whole.{meantPlace, firstPlace, nextPlace, There};
 
 pub(crate) struct Place {

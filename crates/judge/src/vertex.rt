@@ -1,9 +1,9 @@
 // One vertex under the tasks of higher priority: their stretches are filled, the groups walked, the needed cells cleared.
-use crate::above::Above;
-use crate::above::count_above;
-use crate::areas::clear;
-use crate::stretches::fill_above;
-use crate::witness::write_witness;
+use areas::above::Above;
+use areas::above::count_above;
+use areas::clear;
+use areas::stretches::fill_above;
+use areas::witness::write_witness;
 use kinds::Refusal;
 use kinds::RefusedAt;
 use kinds::TaskNumber;
@@ -22,7 +22,7 @@ ghost use Rattle.meaning.specs.Verdict.{walked};
 ghost use Rattle.meaning.specs.Areas.{workNeed};
 ghost use Rattle.meaning.specs.Judge.{judged};
 ghost use Rattle.table.specs.Record.{tableOf};
-ghost use Rattle.judge.specs.Above.{Held, pathCounts, Counted};
+ghost use Rattle.areas.specs.Above.{Held, pathCounts, Counted};
 ghost use Rattle.judge.specs.Judged.{Answered};
 
 // A job of e ticks and deadline d under the first h tasks, none of which has too many paths, with areas that suffice.

@@ -12,9 +12,9 @@ use Rattle.table.specs.declared.Vertex.{Vertex}
 use Rattle.table.specs.declared.Table.{Table}
 use Rattle.table.specs.Record.{taskOf, tableOf}
 use Rattle.lister.specs.Columns.{Ready}
-use Rattle.judge.specs.Above.{Held}
-use Rattle.judge.proofs.Records.{held-count, held-sound, held-ready, held-is}
-use Rattle.judge.proofs.OneVertex.{ownTask, ownVertex, own-size, job-is, job-sound}
+use Rattle.areas.specs.Above.{Held}
+use Rattle.areas.proofs.Records.{held-count, held-sound, held-ready, held-is}
+use Rattle.areas.proofs.Vertices.{ownTask, ownVertex, own-size, job-is, job-sound}
 
 module _ (t : Table) (k : Held t) where
   pub last-task : 1 ≤ t .n

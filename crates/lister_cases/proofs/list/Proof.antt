@@ -1,5 +1,4 @@
 use Rattle.reader.proofs.Result.{table-read}
-use Rattle.judge.proofs.Answers.{read-held}
 use borrow.Author.Needs.{needs}
 use Rattle.lister_cases.proofs.list.Statement.{statement}
 use Rattle.lister_cases.proofs.list.Tie as tie
@@ -14,7 +13,7 @@ enum-told-2 : tie.Need-enum-told-2
 enum-told-2 c = search needs
 
 list-table-requires : tie.Need-list-table-requires
-list-table-requires c κs = (read-held (table-read (c .before .before .before .before .before .before .before .args .text .now) (c .before .before .before .before .read .result) (c .before .before .before .before .read .ensures) (c .before .before .enum-told2 .given .1)), (c .before .before .before .before .before .before .before .pre))
+list-table-requires c κs = let r = (table-read (c .before .before .before .before .before .before .before .args .text .now) (c .before .before .before .before .read .result) (c .before .before .before .before .read .ensures) (c .before .before .enum-told2 .given .1)) in (record { whole = r .is; sound = r .sound }, (c .before .before .before .before .before .before .before .pre))
 
 same-length : tie.Need-same-length
 same-length c = search needs

@@ -2,10 +2,10 @@ use Prim.Native.Nat.{_-_}
 use borrow.Author.Needs.{needs}
 use Rattle.meaning.specs.Table.{higher}
 use Rattle.table.specs.Record.{tableOf}
-use Rattle.judge.proofs.Records.{held-ready}
-use Rattle.judge.proofs.Witnesses.{WrittenSoFar, written-none, path-asks, written-more, written-all}
-use Rattle.judge.proofs.witness.write_witness.Statement.{statement}
-use Rattle.judge.proofs.witness.write_witness.Tie as tie
+use Rattle.areas.proofs.Records.{held-ready}
+use Rattle.areas.proofs.Witnesses.{WrittenSoFar, written-none, path-asks, written-more, written-all}
+use Rattle.areas.proofs.witness.write_witness.Statement.{statement}
+use Rattle.areas.proofs.witness.write_witness.Tie as tie
 
 abbrev Inv-loop : tie.InvT-loop
 Inv-loop witness₀ h d t places at₀ j₀ witness at j = WrittenSoFar (higher (tableOf t) h) h (d .0) places witness₀ witness at j

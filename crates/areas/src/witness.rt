@@ -12,8 +12,8 @@ ghost use Rattle.meaning.specs.Verdict.{cellsOf};
 ghost use Rattle.table.specs.Record.{tableOf};
 ghost use Rattle.lister.specs.Columns.{mostCounted};
 ghost use Rattle.desk_frames.specs.Lines.{Wrote};
-ghost use Rattle.judge.specs.Above.{Held};
-ghost use Rattle.judge.specs.Witness.{pathCells, pathsAt};
+ghost use Rattle.areas.specs.Above.{Held};
+ghost use Rattle.areas.specs.Witness.{pathCells, pathsAt};
 
 // One path's cells, from a place on; gives the place behind them.
 fn write_path(witness: &mut [u16], at: usize, path: Path) -> usize
@@ -33,13 +33,7 @@ fn write_path(witness: &mut [u16], at: usize, path: Path) -> usize
 }
 
 // The paths at these places, one of each higher task; gives how many cells they take.
-pub(crate) fn write_witness(
-    witness: &mut [u16],
-    t: Table,
-    places: [usize; 7],
-    h: usize,
-    d: Ticks,
-) -> usize
+pub fn write_witness(witness: &mut [u16], t: Table, places: [usize; 7], h: usize, d: Ticks) -> usize
     requires { ⌜ Held t × (h < t .n) × (0 < d .0) × (d .0 ≤ largestD) ⌝ }
     requires { ⌜ ((j : ℕ) → j < h → getD places j 0 ≤ mostCounted) × (h * (1 + d .0) ≤ length (now witness)) ⌝ }
     ensures { λ r. ⌜ Wrote (cellsOf (pathsAt (higher (tableOf t) h) (d .0) places)) (now (witness .entry)) 0 (now (witness .exit)) r × (r ≤ h * (1 + d .0)) ⌝ }

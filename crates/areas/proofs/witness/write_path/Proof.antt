@@ -3,9 +3,9 @@ use Prim.Native.Nat.{_-_, _≤_}
 use native.Mathlib.Omega.{arith}
 use lib.ListN.{length, length-set}
 use borrow.Author.Needs.{needs}
-use Rattle.judge.proofs.Placing.{Placing, placing-none, placing-more, placing-all, numbersIn, numbers-length, number-at, wrote-length-then}
-use Rattle.judge.proofs.witness.write_path.Statement.{statement}
-use Rattle.judge.proofs.witness.write_path.Tie as tie
+use Rattle.areas.proofs.Placing.{Placing, placing-none, placing-more, placing-all, numbersIn, numbers-length, number-at, wrote-length-then}
+use Rattle.areas.proofs.witness.write_path.Statement.{statement}
+use Rattle.areas.proofs.witness.write_path.Tie as tie
 
 abbrev Inv-loop : tie.InvT-loop
 Inv-loop witness₀ at path len from i₀ witness i = (len ≤ length (path .vertices)) × Placing (numbersIn len (path .vertices)) from witness₀ witness i

@@ -1,8 +1,8 @@
 use Prim.Native.Nat.{_-_}
 use borrow.Author.Needs.{needs}
-use Rattle.judge.proofs.Fronts.{Zeroing, zeroing-none, zeroing-more, zeroing-all}
-use Rattle.judge.proofs.areas.clear.Statement.{statement}
-use Rattle.judge.proofs.areas.clear.Tie as tie
+use Rattle.areas.proofs.Fronts.{Zeroing, zeroing-none, zeroing-more, zeroing-all}
+use Rattle.areas.proofs.clear.Statement.{statement}
+use Rattle.areas.proofs.clear.Tie as tie
 
 abbrev Inv-loop : tie.InvT-loop
 Inv-loop work₀ n i₀ work i = Zeroing n work₀ work i

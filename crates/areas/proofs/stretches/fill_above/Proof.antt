@@ -3,9 +3,9 @@ use native.Mathlib.Omega.{arith}
 use borrow.Author.Needs.{needs}
 use Rattle.meaning.specs.Table.{higher}
 use Rattle.table.specs.Record.{tableOf}
-use Rattle.judge.proofs.Filling.{at, Filled, filled-none, filled-more, filled-all, fill-asks}
-use Rattle.judge.proofs.stretches.fill_above.Statement.{statement}
-use Rattle.judge.proofs.stretches.fill_above.Tie as tie
+use Rattle.areas.proofs.Filling.{at, Filled, filled-none, filled-more, filled-all, fill-asks}
+use Rattle.areas.proofs.stretches.fill_above.Statement.{statement}
+use Rattle.areas.proofs.stretches.fill_above.Tie as tie
 
 abbrev Inv-loop : tie.InvT-loop
 Inv-loop work₀ h d t counts roots j₀ work j = Filled (higher (tableOf t) h) h (d .0) work₀ work j

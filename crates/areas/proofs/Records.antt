@@ -16,7 +16,7 @@ use Rattle.table.specs.Record as Blank
 use Rattle.table.proofs.Record.{getD-padded, length-padded, table-of-record, task-of-record}
 use Rattle.lister.specs.Columns.{Ready}
 use Rattle.lister.proofs.Readiness.{ready-record}
-use Rattle.judge.specs.Above.{Held}
+use Rattle.areas.specs.Above.{Held}
 
 -- the record of a sound table is held
 pub held-record : (ts : Meant.Table) → SoundTable ts → Held (tableRecord ts)

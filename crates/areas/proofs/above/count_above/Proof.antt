@@ -4,11 +4,11 @@ use native.Mathlib.Omega.{arith}
 use borrow.Author.Needs.{needs}
 use Rattle.meaning.specs.Table.{higher}
 use Rattle.table.specs.Record.{tableOf}
-use Rattle.judge.specs.Above.{pathCounts, Counting}
-use Rattle.judge.proofs.Records.{held-few, held-ready}
-use Rattle.judge.proofs.Counting.{counting-none, counting-more, rows-fit, counts-length, calm-at, crowd-at}
-use Rattle.judge.proofs.above.count_above.Statement.{statement}
-use Rattle.judge.proofs.above.count_above.Tie as tie
+use Rattle.areas.specs.Above.{pathCounts, Counting}
+use Rattle.areas.proofs.Records.{held-few, held-ready}
+use Rattle.areas.proofs.Counting.{counting-none, counting-more, rows-fit, counts-length, calm-at, crowd-at}
+use Rattle.areas.proofs.above.count_above.Statement.{statement}
+use Rattle.areas.proofs.above.count_above.Tie as tie
 
 abbrev Inv-loop : tie.InvT-loop
 Inv-loop h d t counts₀ roots₀ rows₀ j₀ counts roots rows j = Counting h (d .0) (pathCounts (higher (tableOf t) h) (d .0)) counts roots rows j

@@ -6,21 +6,21 @@ ghost use Prim.Native.Nat.{_+_, _≤_, _<_};
 ghost use Rattle.meaning.specs.Bounds.{largestD};
 ghost use Rattle.meaning.specs.Table.{higher};
 ghost use Rattle.table.specs.Record.{tableOf};
-ghost use Rattle.judge.specs.Above.{Held, pathCounts, Counted};
+ghost use Rattle.areas.specs.Above.{Held, pathCounts, Counted};
 
 // More than 64 paths are too many; the lister need not count further.
 const MOST: usize = 64;
 
 // Of the tasks up to the first that has too many paths, `crowded`, or of all where there is none: how many paths each has, where its stretch begins, and
 // how many rows they have in all.
-pub(crate) struct Above {
+pub struct Above {
     pub counts: [usize; 7],
     pub roots: [usize; 7],
     pub rows: usize,
     pub crowded: usize,
 }
 
-pub(crate) fn count_above(t: Table, h: usize, d: Ticks) -> Above
+pub fn count_above(t: Table, h: usize, d: Ticks) -> Above
     requires { ⌜ Held t × (h < t .n) × (0 < d .0) × (d .0 ≤ largestD) ⌝ }
     ensures { λ r. ⌜ Counted h (d .0) (pathCounts (higher (tableOf t) h) (d .0)) r ⌝ }
 {

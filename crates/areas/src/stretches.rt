@@ -8,10 +8,10 @@ ghost use lib.ListN.{length};
 ghost use Rattle.meaning.specs.Table.{higher};
 ghost use Rattle.meaning.specs.Areas.{written};
 ghost use Rattle.table.specs.Record.{tableOf};
-ghost use Rattle.judge.specs.Above.{Held, pathCounts, Counted};
-ghost use Rattle.judge.specs.Stretches.{stretches};
+ghost use Rattle.areas.specs.Above.{Held, pathCounts, Counted};
+ghost use Rattle.areas.specs.Stretches.{stretches};
 
-pub(crate) fn fill_above(work: &mut [u32], t: Table, above: Above, h: usize, d: Ticks)
+pub fn fill_above(work: &mut [u32], t: Table, above: Above, h: usize, d: Ticks)
     requires { ⌜ Held t × (h < t .n) × (0 < d .0) ⌝ }
     requires { ⌜ Counted h (d .0) (pathCounts (higher (tableOf t) h) (d .0)) above × (h ≤ above .crowded) × (above .rows * d .0 ≤ length (now work)) ⌝ }
     ensures { λ _. ⌜ now (work .exit) ≡ written (stretches (higher (tableOf t) h) (d .0)) (now (work .entry)) ⌝ }

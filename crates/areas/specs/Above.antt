@@ -10,7 +10,7 @@ use Rattle.meaning.specs.Paths.{pathsOf}
 use Rattle.meaning.specs.Sound.{SoundTable}
 use Rattle.table.specs.declared.Table.{Table}
 use Rattle.table.specs.Record.{tableRecord, tableOf}
-use Rattle.judge.specs.declared.above.Above.{Above}
+use Rattle.areas.specs.declared.above.Above.{Above}
 
 -- the record of a readable table
 pub record Held (t : Table) : Type 0 where
@@ -35,9 +35,14 @@ pub record Counting (h d : ℕ) (ns counts roots : List ℕ) (rows j : ℕ) : Ty
   pub few : (k : ℕ) → k < j → getD ns k 0 ≤ mostPaths
   pub same : (k : ℕ) → k < j → getD counts k 0 ≡ getD ns k 0
   pub starts : (k : ℕ) → k < j → getD roots k 0 ≡ rowsIn (take k ns) * d
+  pub spare : (k : ℕ) → j ≤ k → (getD counts k 0 ≡ 0) × (getD roots k 0 ≡ 0)
   pub all : rows ≡ rowsIn (take j ns)
   pub small : rows ≤ 127 * j
 
 pub record Counted (h d : ℕ) (ns : List ℕ) (r : Above) : Type 0 where
   pub calm : Counting h d ns (r .counts) (r .roots) (r .rows) (r .crowded)
   pub crowd : r .crowded < h → mostPaths < getD ns (r .crowded) 0
+
+-- two counts of the same tasks coincide, in every cell
+abbrev pub SettledCount : Type 0
+SettledCount = (h d : ℕ) (ns : List ℕ) (r s : Above) → Counted h d ns r → Counted h d ns s → r ≡ s

@@ -22,11 +22,11 @@ use Rattle.table.specs.declared.Task.{Task}
 use Rattle.table.specs.declared.Table.{Table}
 use Rattle.table.specs.Record.{tableOf, taskOf}
 use Rattle.ranges.proofs.WholeStretch.{take-map}
-use Rattle.judge.specs.declared.above.Above.{Above}
-use Rattle.judge.specs.Above.{Held, pathCounts, rowsIn, Counted}
-use Rattle.judge.specs.Stretches.{stretches}
-use Rattle.judge.proofs.Records.{held-count, held-is, held-ready}
-use Rattle.judge.proofs.Counting.{rows-fit, rows-more, counts-length, count-at, count-some}
+use Rattle.areas.specs.declared.above.Above.{Above}
+use Rattle.areas.specs.Above.{Held, pathCounts, rowsIn, Counted}
+use Rattle.areas.specs.Stretches.{stretches}
+use Rattle.areas.proofs.Records.{held-count, held-is, held-ready}
+use Rattle.areas.proofs.Counting.{rows-fit, rows-more, counts-length, count-at, count-some}
 
 -- ---- a front that grows by a part of the area
 

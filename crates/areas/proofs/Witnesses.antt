@@ -25,9 +25,9 @@ use Rattle.lister.specs.declared.Path as Lister
 use Rattle.lister.specs.Place.{pathRecord}
 use Rattle.desk_frames.specs.Lines.{Wrote}
 use Rattle.desk_frames.proofs.Lines.{wrote-none, wrote-then, wrote-length}
-use Rattle.judge.specs.Above.{Held}
-use Rattle.judge.specs.Witness.{pathCells, pathsAt}
-use Rattle.judge.proofs.Records.{held-count, held-few, held-is, held-sound}
+use Rattle.areas.specs.Above.{Held}
+use Rattle.areas.specs.Witness.{pathCells, pathsAt}
+use Rattle.areas.proofs.Records.{held-count, held-few, held-is, held-sound}
 
 -- ---- a path's record holds the path
 

@@ -1,0 +1,7 @@
+pub mod Records
+pub mod Vertices
+pub mod Counting
+pub mod Fronts
+pub mod Filling
+pub mod Placing
+pub mod Witnesses
