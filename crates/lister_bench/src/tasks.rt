@@ -78,21 +78,21 @@ fn task_from(v: &[u8], e: &[u8]) -> Task
 }
 
 // "Self-edge p = 5."
-pub fn r3() -> Task
+pub(crate) fn r3() -> Task
     ensures { λ r. ⌜ r ≡ taskLoop 2 5 ⌝ }
 {
     task_from(b"\x02\x05", b"\x00\x00\x05")
 }
 
 // "Vertices (e,d) = (3,10), (1,2), (4,10), edge 1 to 2 with p 2."
-pub fn r7() -> Task
+pub(crate) fn r7() -> Task
     ensures { λ r. ⌜ r ≡ taskR7 ⌝ }
 {
     task_from(b"\x03\x0a\x01\x02\x04\x0a", b"\x01\x02\x02")
 }
 
 // "Four vertices, all 16 edges, p 10."
-pub fn r10() -> Task
+pub(crate) fn r10() -> Task
     ensures { λ r. ⌜ r ≡ taskFull 4 10 ⌝ }
 {
     task_from(
@@ -102,7 +102,7 @@ pub fn r10() -> Task
 }
 
 // "An edgeless fifth vertex."
-pub fn r10_fifth() -> Task
+pub(crate) fn r10_fifth() -> Task
     ensures { λ r. ⌜ r ≡ taskFull 5 10 ⌝ }
 {
     task_from(
@@ -112,7 +112,7 @@ pub fn r10_fifth() -> Task
 }
 
 // Four vertices, all 16 edges, p 70: 64 paths at horizon 200.
-pub fn wide_fan() -> Task
+pub(crate) fn wide_fan() -> Task
     ensures { λ r. ⌜ r ≡ taskFull 4 70 ⌝ }
 {
     task_from(
@@ -122,7 +122,7 @@ pub fn wide_fan() -> Task
 }
 
 // A self-edge of one tick: a path of as many vertices as the horizon has ticks.
-pub fn long_path() -> Task
+pub(crate) fn long_path() -> Task
     ensures { λ r. ⌜ r ≡ taskLoop 1 1 ⌝ }
 {
     task_from(b"\x01\x01", b"\x00\x00\x01")
