@@ -1,5 +1,5 @@
 -- A byte is a digit or foreign, by its worth as by the definition. Assumes nothing.
-use mathlib.Core.Path.{_≡_, refl, sym, subst, _∙_}
+use mathlib.Core.Path.{_≡_, refl, sym, ap, subst, _∙_}
 use Prim.Native.Nat.{ℕ, zero, suc, _+_, _-_, _*_, _≤_, _<_}
 use native.Mathlib.Omega.{arith}
 use native.Mathlib.Nat.{add-zero, zero-add, add-suc, suc-add}
@@ -102,4 +102,18 @@ allRight ws = every rightAt 0 ws
 pub worths-right : (ws : List ℕ) → length ws ≡ 256 → T (allRight ws) → Worths ws
 unfolding allRight rightAt
 worths-right ws l t =
-    record { right = λ b h. eqb→eq (getD ws b 0) (worthOf b) (subst (λ (m : ℕ). T (rightAt m (getD ws b 0))) (zero-add b) (every-at rightAt ws 0 t b (omega arith))) }
+    record {
+      each = l;
+      right = λ b h. eqb→eq (getD ws b 0) (worthOf b) (subst (λ (m : ℕ). T (rightAt m (getD ws b 0))) (zero-add b) (every-at rightAt ws 0 t b (omega arith)));
+    }
+
+-- ---- there is only one such table
+
+same-cells : (xs ys : List ℕ) → length xs ≡ length ys → ((i : ℕ) → i < length xs → getD xs i 0 ≡ getD ys i 0) → xs ≡ ys
+same-cells [] [] e h = refl
+same-cells [] (y ∷ ys) e h = absurd (omega arith)
+same-cells (x ∷ xs) [] e h = absurd (omega arith)
+same-cells (x ∷ xs) (y ∷ ys) e h = ap (λ (z : ℕ). z ∷ xs) (h zero (omega arith)) ∙ ap (λ (zs : List ℕ). y ∷ zs) (same-cells xs ys (omega arith) (λ i l. h (suc i) (omega arith)))
+
+pub worths-settled : (ws vs : List ℕ) → Worths ws → Worths vs → ws ≡ vs
+worths-settled ws vs p q = same-cells ws vs (p .each ∙ sym (q .each)) (λ i l. p .right i (omega (arith, p .each)) ∙ sym (q .right i (omega (arith, p .each))))

@@ -20,8 +20,9 @@ worthOf b =
     (pick (ltb b 97) foreignWorth
     (pick (leb b 102) (b - 87) foreignWorth)))
 
--- a table of all worths
+-- a table of all worths, one for each byte
 pub record Worths (ws : List ℕ) : Type 0 where
+  pub each : length ws ≡ 256
   pub right : (b : ℕ) → b < 256 → getD ws b 0 ≡ worthOf b
 
 -- the byte that the two digits at i stand for
