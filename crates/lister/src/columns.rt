@@ -12,7 +12,7 @@ ghost use Rattle.table.specs.Record.{taskOf};
 ghost use Rattle.lister.specs.Columns.{EdgesEnd, Sorted, Cuts, Ready, executionIn, ColumnsOf};
 
 // The edges out of v are those from start[v] up to start[v + 1]; each leads to `to` and has separation `p`.
-pub struct Columns {
+pub(crate) struct Columns {
     pub e: [u16; 12],
     pub start: [u8; 13],
     pub to: [u8; 32],
