@@ -18,6 +18,8 @@ pub const D: RangeInclusive<u16> = 1..=200;
 pub const P: RangeInclusive<u16> = 1..=1_000;
 /// The most complete paths that a higher task may have.
 pub const PATHS: usize = 64;
+/// The most work cells that a vertex can need.
+pub const MOST_WORK_CELLS: usize = *D.end() as usize * HIGHER_TASKS * (2 * PATHS - 1);
 
 /// The first byte of a task frame.
 pub const TASK_FRAME: u8 = 0x01;

@@ -1,8 +1,7 @@
 //! One judging call with all that is lent to it, and what it answers and leaves, as a line.
 
-use crate::bounds::{COUNTS_FRAME, REFUSED_FRAME};
-use crate::desk::write_bytes;
-use crate::judge::{judge, judge_table};
+use crate::desk::{counts, write_bytes};
+use crate::judge::judge;
 use crate::table::{TaskNo, VertexNo};
 
 /// The bytes of a case before its text: the text's length (4), task (1), vertex (1), budget (4), work cells (4) and witness cells (4).
@@ -87,25 +86,7 @@ impl Case {
     /// Judges the whole table on a marked work area: a line with the four counts or the refusal, as the desk's frames have them, and what the area holds after it.
     pub fn tabled(&self) -> String {
         let mut work = self.marked_work();
-        let mut line = String::new();
-        match judge_table(&self.text, self.budget, &mut work) {
-            Ok(counts) => {
-                write_bytes(&mut line, &[COUNTS_FRAME]);
-                // A table has at most 96 vertices.
-                let counts = [
-                    counts.meets,
-                    counts.misses,
-                    counts.unfinished,
-                    counts.refused,
-                ];
-                write_bytes(&mut line, &counts.map(|count| count as u8));
-            }
-            Err(refusal) => {
-                write_bytes(&mut line, &[REFUSED_FRAME, refusal.number()]);
-                // A refused line is at most the 362nd.
-                write_bytes(&mut line, &(refusal.place as u16).to_be_bytes());
-            }
-        }
+        let mut line = counts(&self.text, self.budget, &mut work);
         write_work(&mut line, &work);
         line.push('\n');
         line

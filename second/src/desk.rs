@@ -2,7 +2,7 @@
 
 use crate::bounds::{BUDGET, INPUT_BYTES, WITNESS_CELLS, WORK_CELLS};
 use crate::bounds::{COUNTS_FRAME, END_FRAME, PATH_FRAME, REFUSED_FRAME, VERDICT_FRAME};
-use crate::judge::{judge_vertex, Counts, Verdict};
+use crate::judge::{judge_table, judge_vertex, Counts, Verdict};
 use crate::refusal::{Refusal, Row};
 use crate::table::{Table, TaskNo, VertexNo};
 use crate::text;
@@ -14,6 +14,7 @@ pub fn output(input: &[u8]) -> String {
         Ok(table) => write_table(&mut lines, &table),
         Err(refusal) => write_refusal(&mut lines, &refusal),
     }
+    lines.push('\n');
     lines
 }
 
@@ -21,10 +22,21 @@ pub fn output(input: &[u8]) -> String {
 pub fn check(text: &[u8]) -> String {
     let mut line = String::new();
     match text::read(text) {
-        Ok(_) => write_frame(&mut line, &[END_FRAME]),
+        Ok(_) => write_bytes(&mut line, &[END_FRAME]),
         Err(refusal) => write_refusal(&mut line, &refusal),
     }
+    line.push('\n');
     line
+}
+
+/// The whole table's four counts as a frame, or the frame of a refused text; no line feed behind it.
+pub fn counts(text: &[u8], budget: u32, work: &mut [u32]) -> String {
+    let mut frame = String::new();
+    match judge_table(text, budget, work) {
+        Ok(counts) => write_counts(&mut frame, &counts),
+        Err(refusal) => write_refusal(&mut frame, &refusal),
+    }
+    frame
 }
 
 /// Reads an input: refusal 12 before all, then as a text.
@@ -39,7 +51,7 @@ pub(crate) fn read(input: &[u8]) -> Result<Table, Refusal> {
 fn write_refusal(lines: &mut String, refusal: &Refusal) {
     // The bounds leave a few hundred good lines before a faulty one, so 2 bytes hold its number.
     let [high, low] = (refusal.place as u16).to_be_bytes();
-    write_frame(lines, &[REFUSED_FRAME, refusal.number(), high, low]);
+    write_bytes(lines, &[REFUSED_FRAME, refusal.number(), high, low]);
 }
 
 /// Writes the frames of every vertex, and last the four counts.
@@ -55,21 +67,27 @@ fn write_table(lines: &mut String, table: &Table) {
             write_paths(lines, task, &witness);
         }
     }
-    let Counts {
+    write_counts(lines, &counts);
+}
+
+/// Writes the frame of the four counts.
+fn write_counts(lines: &mut String, counts: &Counts) {
+    let &Counts {
         meets,
         misses,
         unfinished,
         refused,
     } = counts;
     write_bytes(lines, &[COUNTS_FRAME]);
-    write_frame(lines, &[meets, misses, unfinished, refused].map(byte));
+    write_bytes(lines, &[meets, misses, unfinished, refused].map(byte));
 }
 
 /// Writes the frame of one vertex.
 fn write_verdict(lines: &mut String, task: TaskNo, vertex: VertexNo, verdict: &Verdict) {
     write_bytes(lines, &[VERDICT_FRAME, byte(task.0), byte(vertex.0)]);
     write_bytes(lines, &[verdict.kind()]);
-    write_frame(lines, &verdict.value().to_be_bytes());
+    write_bytes(lines, &verdict.value().to_be_bytes());
+    lines.push('\n');
 }
 
 /// Writes one frame for each higher task of a missing vertex, from the witness area.
@@ -90,12 +108,6 @@ fn write_paths(lines: &mut String, task: TaskNo, witness: &[u16]) {
 /// The byte of a number that the bounds keep below 256.
 fn byte(number: u16) -> u8 {
     number as u8
-}
-
-/// Writes a whole frame as one line.
-fn write_frame(lines: &mut String, frame: &[u8]) {
-    write_bytes(lines, frame);
-    lines.push('\n');
 }
 
 /// Writes bytes as lower case digits.

@@ -1,10 +1,10 @@
 //! The desk program: one input, or with the argument `many` a sequence of texts. With `words`, each one's answer in words for
-//! people; with `check`, only the text check of each; with `list`, the paths of each one's tasks. With `judge`, one judging call
-//! for each case of a sequence.
+//! people; with `check`, only the text check of each; with `list`, the paths of each one's tasks; with `tables`, each one's four
+//! counts. With `judge`, one judging call for each case of a sequence.
 
 #![forbid(unsafe_code)]
 
-use second::bounds::INPUT_BYTES;
+use second::bounds::{BUDGET, INPUT_BYTES, MOST_WORK_CELLS};
 use second::case::Case;
 use second::desk;
 use second::list::list;
@@ -22,9 +22,10 @@ fn main() -> ExitCode {
         [argument] if argument == "words" => lines(|text| words(text) + "\n"),
         [argument] if argument == "check" => lines(desk::check),
         [argument] if argument == "list" => lines(list),
+        [argument] if argument == "tables" => tables(),
         [argument] if argument == "judge" => judge(),
         _ => {
-            complain("usage: second [many | words | check | list | judge]");
+            complain("usage: second [many | words | check | list | tables | judge]");
             return ExitCode::from(2);
         }
     };
@@ -64,13 +65,19 @@ fn many() -> io::Result<()> {
 }
 
 /// Writes the lines of each text of a sequence.
-fn lines(of: fn(&[u8]) -> String) -> io::Result<()> {
+fn lines(mut of: impl FnMut(&[u8]) -> String) -> io::Result<()> {
     let mut source = BufReader::new(io::stdin().lock());
     let mut target = BufWriter::new(io::stdout().lock());
     while let Some(text) = next_text(&mut source)? {
         target.write_all(of(&text).as_bytes())?;
     }
     target.flush()
+}
+
+/// Judges each whole table of a sequence, with the desk's budget and work cells for any vertex: a line for each.
+fn tables() -> io::Result<()> {
+    let mut work = vec![0; MOST_WORK_CELLS];
+    lines(|text| desk::counts(text, BUDGET, &mut work) + "\n")
 }
 
 /// Judges the vertex and then the whole table of each case of a sequence: two lines for each.

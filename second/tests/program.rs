@@ -77,8 +77,25 @@ fn listed_texts() {
 }
 
 #[test]
+fn tabled_texts() {
+    let r1 = text(&r1(2));
+    let edges = |p| (0..16).map(|n| (n / 4, n % 4, p)).collect::<Vec<_>>();
+    // The last vertex has 256 paths above it; or 64, which need more work cells than the desk has, and it is free at tick 2.
+    let [many, large] = [(10, 31), (70, 200)].map(|(p, d)| {
+        let above = task(&[(1, 10); 4], &edges(p));
+        text(&[above, task(&[(1, d)], &[])])
+    });
+    let texts = [&r1, "", "00\n", &many, &large].map(|text| with_length(text.as_bytes()));
+    let found = run(&["tables"], &texts.concat());
+    let expected = "1f02010000\n1e060001\n1e020001\n1f04000001\n1f05000000\n";
+    assert_eq!(String::from_utf8(found.stdout).unwrap(), expected);
+    assert_eq!(found.status.code(), Some(0));
+    assert!(found.stderr.is_empty());
+}
+
+#[test]
 fn no_texts() {
-    for mode in ["many", "words", "check", "list", "judge"] {
+    for mode in ["many", "words", "check", "list", "tables", "judge"] {
         let found = run(&[mode], b"");
         assert_eq!(found.status.code(), Some(0));
         assert!(found.stdout.is_empty() && found.stderr.is_empty());
@@ -91,7 +108,7 @@ fn a_broken_sequence() {
     let beginnings = (1..whole.len()).map(|end| whole[..end].to_vec());
     for broken in beginnings.chain([vec![0xff; 4], vec![0xff; 100]]) {
         for sequence in [broken.clone(), [whole.clone(), broken].concat()] {
-            for mode in ["many", "words", "check", "list"] {
+            for mode in ["many", "words", "check", "list", "tables"] {
                 let found = run(&[mode], &sequence);
                 assert_eq!(found.status.code(), Some(1));
                 assert!(!found.stderr.is_empty());
