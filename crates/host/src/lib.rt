@@ -1,0 +1,80 @@
+// "The customer desk's C host calls the text check directly": `text_check` is the reader's. Here are the judging calls that a C host may want, over
+// numbers and slices only. A slice comes from C as a pointer and a length; an empty one may have a null pointer.
+//
+// Names that a C program sees start with the project's.
+use judge::Counts;
+use judge::TableVerdict;
+use judge::desk_output;
+use judge::judge;
+use judge::judge_table;
+use kinds::TaskNumber;
+use kinds::VertexNumber;
+use kinds::refusal_number;
+use kinds::verdict_number;
+use kinds::verdict_place;
+use kinds::verdict_value;
+ghost use mathlib.Core.Path.{_≡_};
+ghost use lib.ListN.{length};
+ghost use Rattle.desk_frames.specs.Lines.{Wrote};
+ghost use Rattle.judge.specs.Desk.{outputInto};
+ghost use Rattle.judge.specs.Whole.{meantCounts};
+ghost use Rattle.host.specs.Told.{VertexTold, countsNumber, TableTold};
+
+// One vertex of the text's table: gives the verdict's number, 0 meets, 1 misses, 2 unfinished, 3 refused. The value is the count, the budget or the
+// refusal's number; the place is the cells written by a miss, what is returned with a refusal, else zero.
+#[no_mangle]
+pub extern "C" fn tectavirio_judge(
+    text: &[u8],
+    task: u8,
+    vertex: u8,
+    budget: u32,
+    work: &mut [u32],
+    witness: &mut [u16],
+    value: &mut u32,
+    place: &mut u32,
+) -> u8
+    ensures { λ r. ⌜ VertexTold (now (text .entry)) task vertex budget (now (work .entry)) (now (witness .entry)) r (now (value .exit)) (now (place .exit)) (now (work .exit)) (now (witness .exit)) ⌝ }
+{
+    let verdict = judge(
+        text,
+        TaskNumber(task),
+        VertexNumber(vertex),
+        budget,
+        work,
+        witness,
+    );
+    *value = verdict_value(verdict);
+    *place = verdict_place(verdict);
+    verdict_number(verdict)
+}
+
+// Each count in a byte, those that meet highest.
+fn counts_number(c: Counts) -> u32
+    ensures { λ r. ⌜ r ≡ countsNumber (meantCounts c) ⌝ }
+{
+    ((c.meeting as u32 * 256 + c.missing as u32) * 256 + c.unfinishing as u32) * 256
+        + c.refusing as u32
+}
+
+// The four counts of the text's table, below 4,294,967,296; else the refusal's number x 4,294,967,296 + its line.
+#[no_mangle]
+pub extern "C" fn tectavirio_judge_table(text: &[u8], budget: u32, work: &mut [u32]) -> u64
+    ensures { λ r. ⌜ TableTold (now (text .entry)) budget (now (work .entry)) r (now (work .exit)) ⌝ }
+{
+    let verdict = judge_table(text, budget, work);
+    match verdict {
+        TableVerdict::Counted(counts) => counts_number(counts) as u64,
+        TableVerdict::Refused(at) => {
+            let refusal = at.refusal;
+            refusal_number(refusal) as u64 * 4294967296 + at.place as u64
+        }
+    }
+}
+
+// The desk's whole output, as the judge's own call gives it.
+#[no_mangle]
+pub extern "C" fn tectavirio_desk_output(text: &[u8], out: &mut [u8]) -> usize
+    ensures { λ r. ⌜ Wrote (outputInto (now (text .entry)) (length (now (out .entry)))) (now (out .entry)) 0 (now (out .exit)) r ⌝ }
+{
+    desk_output(text, out)
+}
