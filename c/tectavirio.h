@@ -1,0 +1,64 @@
+/* Tectavirio's proved calls, for a C host on x86-64 Linux.
+ *
+ * `rt staticlib reader` writes libreader.a, which has text_check; `rt staticlib host` writes libhost.a, which has the judging calls. Link either or
+ * both. The calls keep nothing from one to the next, allocate nothing and need of the C library memcpy and memset alone.
+ *
+ * Every call answers whatever the bytes, numbers, budget and lengths are. What a pointer leads to is the host's duty, since no call can see it:
+ *   - an area has as many elements as its length says, each of its type and aligned for it; an area of length 0 may have a null pointer;
+ *   - `value` and `place` each lead to one number, and are never null;
+ *   - what a call may write (work, witness, out, value, place) overlaps nothing else that is lent to the same call, and nobody else reads or writes
+ *     it until the call returns; nobody writes the text until then. */
+#ifndef TECTAVIRIO_H
+#define TECTAVIRIO_H
+
+#include <stddef.h>
+#include <stdint.h>
+
+#ifdef __cplusplus
+extern "C" {
+#endif
+
+/* The text check: refusal number x 65,536 + line, both 0 for a readable text. The numbers are the refusal sheet's 1 to 7; lines count from 1. */
+uint32_t text_check(const uint8_t *text, size_t text_bytes);
+
+/* A verdict's number. */
+enum {
+    TECTAVIRIO_MEETS = 0,
+    TECTAVIRIO_MISSES = 1,
+    TECTAVIRIO_UNFINISHED = 2,
+    TECTAVIRIO_REFUSED = 3
+};
+
+/* Judges one vertex of the text's table and gives its verdict's number. A budget is a number from 0 to 4,294,967,295.
+ *
+ *   verdict      *value                          *place
+ *   meets        C, the groups examined          0
+ *   misses       C                               the witness cells written
+ *   unfinished   the budget                      0
+ *   refused      the refusal sheet's 1 to 11     the line (1 to 7), zero (8), the task (9), the cells needed (10, 11)
+ *
+ * The work area needs d times the sum over higher tasks of (2 x paths - 1) cells. After meets, misses and unfinished the needed cells, from the front,
+ * are zero and the rest unchanged. The witness area needs h x (1 + d) cells, h being the number of higher tasks. On a miss its front holds, per
+ * higher task in order, the path's length and vertices; all else in it is unchanged. The other verdicts don't touch it. No refusal changes a lent
+ * area. */
+uint8_t tectavirio_judge(const uint8_t *text, size_t text_bytes, uint8_t task, uint8_t vertex, uint32_t budget, uint32_t *work, size_t work_cells,
+                         uint16_t *witness, size_t witness_cells, uint32_t *value, uint32_t *place);
+
+/* Judges a whole table, with the budget given afresh to each vertex. A readable text gives how many vertices meet, miss, are unfinished and are refused
+ * by 9 or 10, each in a byte, those that meet in the highest of the four: a number below 4,294,967,296. A refused text gives its refusal's number
+ * (1 to 7) x 4,294,967,296 + its line, and nothing is changed. Zeroed from the front are as many work cells as the largest need among vertices not
+ * refused. */
+uint64_t tectavirio_judge_table(const uint8_t *text, size_t text_bytes, uint32_t budget, uint32_t *work, size_t work_cells);
+
+/* Room for any output of the desk program. */
+enum { TECTAVIRIO_LONGEST_OUTPUT = 275147 };
+
+/* Writes the desk program's output for an input, its frames as lines of hexadecimal, from the front of `out`, and gives its length in bytes. All else in
+ * `out` is unchanged. An `out` shorter than TECTAVIRIO_LONGEST_OUTPUT is left as it is, and the length is 0. */
+size_t tectavirio_desk_output(const uint8_t *text, size_t text_bytes, uint8_t *out, size_t out_bytes);
+
+#ifdef __cplusplus
+}
+#endif
+
+#endif
