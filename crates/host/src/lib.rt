@@ -1,5 +1,5 @@
 // "The customer desk's C host calls the text check directly": `text_check` is the reader's. Here are the judging calls that a C host may want, over
-// numbers and slices only. A slice comes from C as a pointer and a length; an empty one may have a null pointer.
+// numbers and slices. A slice comes from C as a pointer and a length; an empty one may have a null pointer.
 //
 // Names that a C program sees start with the project's. A vertex's value and place come back behind pointers, C's way to return more than one number: a
 // count may take 32 bits, and the place beside it has no width of its own.
