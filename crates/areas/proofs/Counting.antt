@@ -17,10 +17,10 @@ use Rattle.meaning.proofs.Lists.{getD-mapped}
 use Rattle.meaning.proofs.PathsOf.{paths-some}
 use Rattle.table.specs.declared.Task.{Task}
 use Rattle.table.specs.declared.Table.{Table}
-use Rattle.table.specs.Record.{taskOf, tableOf}
+use Rattle.table.specs.Record.{taskOf, tableOf, Held}
 use Rattle.table.specs.Record as Blank
-use Rattle.areas.specs.Above.{Held, pathCounts, rowsIn, Counting, SettledCount}
-use Rattle.areas.proofs.Records.{held-count, held-is, held-sound}
+use Rattle.areas.specs.Above.{pathCounts, rowsIn, Counting, SettledCount}
+use Rattle.table.proofs.Records.{held-count, held-is, held-sound}
 
 rows-snoc : (ns : List ℕ) (n : ℕ) → rowsIn (ns ++ n ∷ []) ≡ rowsIn ns + (2 * n - 1)
 unfolding rowsIn

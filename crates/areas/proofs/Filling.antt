@@ -17,15 +17,14 @@ use Rattle.meaning.specs.Sound.{AllSound}
 use Rattle.meaning.proofs.PathsOf.{paths-some}
 use Rattle.ranges.specs.Stretch.{stretchOf}
 use Rattle.ranges.proofs.CellBounds.{stretch-length}
-use Rattle.lister.specs.Columns.{Ready}
+use Rattle.table.specs.Record.{HeldTask, tableOf, taskOf, Held}
 use Rattle.table.specs.declared.Task.{Task}
 use Rattle.table.specs.declared.Table.{Table}
-use Rattle.table.specs.Record.{tableOf, taskOf}
 use Rattle.ranges.proofs.WholeStretch.{take-map}
 use Rattle.areas.specs.declared.above.Above.{Above}
-use Rattle.areas.specs.Above.{Held, pathCounts, rowsIn, Counted}
+use Rattle.areas.specs.Above.{pathCounts, rowsIn, Counted}
 use Rattle.areas.specs.Stretches.{stretches}
-use Rattle.areas.proofs.Records.{held-count, held-is, held-ready}
+use Rattle.table.proofs.Records.{held-count, held-is, held-one}
 use Rattle.areas.proofs.Counting.{rows-fit, rows-more, counts-length, count-at, count-some}
 
 -- ---- a front that grows by a part of the area
@@ -167,13 +166,13 @@ module _ (t : Table) (k : Held t) (h d : ℕ) (l : h < t .n) (a : Above) (c : Co
     -- what filling one stretch asks
     pub fill-asks : (z : Task) {now : List ℕ} {j : ℕ} → Filled ks h d P now j → (m : j < h) → 0 < d
         → (let from = getD (a .roots) j 0 in let to = from + (2 * getD (a .counts) j 0 - 1) * d in
-        Ready (getD (t .tasks) j z)
+        HeldTask (getD (t .tasks) j z)
         × ((0 < d) × (d ≤ largestD) × (getD (a .counts) j 0 ≤ 65536) × (0 < getD (a .counts) j 0) × (getD (a .counts) j 0 ≡ length (pathsOf (taskOf (getD (t .tasks) j z)) d)) × (length (take (to - from) (drop from now)) ≡ (2 * getD (a .counts) j 0 - 1) * d)))
     fill-asks z {now} {j} f m o =
         let x = at j m in
         let from = getD (a .roots) j 0 in
         let size = (2 * getD (a .counts) j 0 - 1) * d in (
-          held-ready t k z j (omega arith),
+          held-one t k z j (omega arith),
           (
             o,
             c .calm .short,

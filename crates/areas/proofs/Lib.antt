@@ -1,5 +1,3 @@
-pub mod Records
-pub mod Vertices
 pub mod Counting
 pub mod Fronts
 pub mod Filling

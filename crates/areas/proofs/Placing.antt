@@ -8,8 +8,8 @@ use lib.ListN.{length, take, getD, set, length-map}
 use lib.Seq.{sets, length-sets, take-suc, take-all, length-take-le, getD-take}
 use Rattle.meaning.proofs.Lists.{getD-mapped}
 use Rattle.kinds.specs.declared.VertexNumber.{VertexNumber}
-use Rattle.desk_frames.specs.Lines.{Wrote}
-use Rattle.desk_frames.proofs.Lines.{sets-append, wrote-then}
+use Rattle.meaning.specs.Areas.{Wrote}
+use Rattle.meaning.proofs.Wrote.{sets-append, wrote-then}
 
 -- ---- a list of cells, after i of them
 

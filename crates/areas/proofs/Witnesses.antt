@@ -19,15 +19,14 @@ use Rattle.meaning.proofs.PathsOf.{paths-short}
 use Rattle.kinds.specs.declared.VertexNumber.{VertexNumber}
 use Rattle.table.specs.declared.Task.{Task}
 use Rattle.table.specs.declared.Table.{Table}
-use Rattle.table.specs.Record.{padded, vertexNumber, tableOf, taskOf}
+use Rattle.table.specs.Record.{padded, vertexNumber, tableOf, taskOf, Held}
 use Rattle.table.proofs.Record.{take-padded, length-padded}
 use Rattle.lister.specs.declared.Path as Lister
 use Rattle.lister.specs.Place.{pathRecord}
-use Rattle.desk_frames.specs.Lines.{Wrote}
-use Rattle.desk_frames.proofs.Lines.{wrote-none, wrote-then, wrote-length}
-use Rattle.areas.specs.Above.{Held}
+use Rattle.meaning.specs.Areas.{Wrote}
+use Rattle.meaning.proofs.Wrote.{wrote-none, wrote-then, wrote-length}
 use Rattle.areas.specs.Witness.{pathCells, pathsAt}
-use Rattle.areas.proofs.Records.{held-count, held-few, held-is, held-sound}
+use Rattle.table.proofs.Records.{held-count, held-few, held-is, held-sound}
 
 -- ---- a path's record holds the path
 

@@ -1,4 +1,4 @@
--- What is asked of a table record, and what counting the higher tasks' paths promises. Assumes nothing.
+-- What counting the higher tasks' paths promises. Assumes nothing.
 use mathlib.Core.Path.{_≡_}
 use Prim.Native.Nat.{ℕ, _-_, _*_, _≤_, _<_}
 use mathlib.Core.List.{List, map}
@@ -7,15 +7,8 @@ use Rattle.meaning.specs.Lists.{sum}
 use Rattle.meaning.specs.Bounds.{mostPaths, largestD}
 use Rattle.meaning.specs.Table as Meant
 use Rattle.meaning.specs.Paths.{pathsOf}
-use Rattle.meaning.specs.Sound.{SoundTable}
 use Rattle.table.specs.declared.Table.{Table}
-use Rattle.table.specs.Record.{tableRecord, tableOf}
 use Rattle.areas.specs.declared.above.Above.{Above}
-
--- the record of a readable table
-pub record Held (t : Table) : Type 0 where
-  pub whole : t ≡ tableRecord (tableOf t)
-  pub sound : SoundTable (tableOf t)
 
 -- how many paths each task has for deadline d
 abbrev pub pathCounts : List Meant.Task → ℕ → List ℕ

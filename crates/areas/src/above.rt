@@ -5,8 +5,8 @@ use table::Table;
 ghost use Prim.Native.Nat.{_+_, _≤_, _<_};
 ghost use Rattle.meaning.specs.Bounds.{largestD};
 ghost use Rattle.meaning.specs.Table.{higher};
-ghost use Rattle.table.specs.Record.{tableOf};
-ghost use Rattle.areas.specs.Above.{Held, pathCounts, Counted};
+ghost use Rattle.table.specs.Record.{tableOf, Held};
+ghost use Rattle.areas.specs.Above.{pathCounts, Counted};
 
 // More than 64 paths are too many; the lister need not count further.
 const MOST: usize = 64;

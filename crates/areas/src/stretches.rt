@@ -7,8 +7,8 @@ ghost use Prim.Native.Nat.{_*_, _≤_, _<_};
 ghost use lib.ListN.{length};
 ghost use Rattle.meaning.specs.Table.{higher};
 ghost use Rattle.meaning.specs.Areas.{written};
-ghost use Rattle.table.specs.Record.{tableOf};
-ghost use Rattle.areas.specs.Above.{Held, pathCounts, Counted};
+ghost use Rattle.table.specs.Record.{tableOf, Held};
+ghost use Rattle.areas.specs.Above.{pathCounts, Counted};
 ghost use Rattle.areas.specs.Stretches.{stretches};
 
 pub fn fill_above(work: &mut [u32], t: Table, above: Above, h: usize, d: Ticks)

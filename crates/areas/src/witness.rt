@@ -9,10 +9,9 @@ ghost use lib.ListN.{length, take, getD};
 ghost use Rattle.meaning.specs.Bounds.{largestD};
 ghost use Rattle.meaning.specs.Table.{higher};
 ghost use Rattle.meaning.specs.Verdict.{cellsOf};
-ghost use Rattle.table.specs.Record.{tableOf};
+ghost use Rattle.table.specs.Record.{tableOf, Held};
 ghost use Rattle.lister.specs.Columns.{mostCounted};
-ghost use Rattle.desk_frames.specs.Lines.{Wrote};
-ghost use Rattle.areas.specs.Above.{Held};
+ghost use Rattle.meaning.specs.Areas.{Wrote};
 ghost use Rattle.areas.specs.Witness.{pathCells, pathsAt};
 
 // One path's cells, from a place on; gives the place behind them.

@@ -1,38 +1,18 @@
 -- Writing into a lent area, byte by byte and line by line. Assumes nothing.
-use mathlib.Core.Path.{_≡_, refl, sym, ap, ap₂, subst, _∙_}
-use Prim.Native.Nat.{ℕ, suc, _+_, _*_, _/_, _%_, _≤_, _<_}
-use native.Mathlib.Nat.{add-zero}
+use mathlib.Core.Path.{_≡_, refl, ap, ap₂, subst, _∙_}
+use Prim.Native.Nat.{ℕ, _+_, _*_, _/_, _%_, _≤_, _<_}
 use native.Mathlib.Numerals.{add-one}
 use native.Mathlib.Omega.{arith}
 use mathlib.Core.List.{List, [], _∷_, _++_}
 use lib.ListN.{length, set, take, getD, length-append}
-use lib.Seq.{sets, length-sets, take-suc, take-all}
+use lib.Seq.{take-suc, take-all}
 use Rattle.meaning.specs.Lists.{gather}
 use Rattle.meaning.specs.Text.{lineFeed}
 use Rattle.meaning.specs.Paths.{Path}
 use Rattle.meaning.specs.Desk.{digit, digits, line, pathFrame}
 use Rattle.meaning.proofs.Lists.{gather-append}
-use Rattle.desk_frames.specs.Lines.{Wrote}
-
--- one run of stores and then another
-pub sets-append : (l : List ℕ) (i : ℕ) (xs ys : List ℕ) → sets l i (xs ++ ys) ≡ sets (sets l i xs) (i + length xs) ys
-sets-append l i [] ys = ap (λ (k : ℕ). sets l k ys) (sym (add-zero i))
-sets-append l i (x ∷ xs) ys =
-    let e : suc i + length xs ≡ i + suc (length xs) = omega arith in
-    sets-append (set l i x) (suc i) xs ys ∙ ap (λ (k : ℕ). sets (sets (set l i x) (suc i) xs) k ys) e
-
-pub wrote-none : (out : List ℕ) (at : ℕ) → Wrote [] out at out at
-wrote-none out at = record { cells = refl; end = omega arith }
-
-pub wrote-then : (xs ys : List ℕ) {out mid after : List ℕ} {at next last : ℕ} → Wrote xs out at mid next → Wrote ys mid next after last → Wrote (xs ++ ys) out at after last
-wrote-then xs ys {out} {mid} {after} {at} {next} {last} a b =
-    record {
-      cells = b .cells ∙ ap₂ (λ (l : List ℕ) (k : ℕ). sets l k ys) (a .cells) (a .end) ∙ sym (sets-append out at xs ys);
-      end = b .end ∙ rw length-append (omega (arith, a .end));
-    }
-
-pub wrote-length : {xs out after : List ℕ} {at next : ℕ} → Wrote xs out at after next → length after ≡ length out
-wrote-length {xs} {out} {at} w = ap length (w .cells) ∙ length-sets out at xs
+use Rattle.meaning.specs.Areas.{Wrote}
+use Rattle.meaning.proofs.Wrote.{wrote-none, wrote-then, wrote-length}
 
 -- two stores
 pub wrote-byte : (out : List ℕ) (at b x y : ℕ) → x ≡ digit (b / 16) → y ≡ digit (b % 16) → Wrote (digits b) out at (set (set out at x) (at + 1) y) (at + 2)

@@ -11,8 +11,10 @@ use Rattle.meaning.specs.Lists.{gather}
 use Rattle.meaning.specs.Paths.{Path}
 use Rattle.meaning.specs.Verdict.{cellsOf}
 use Rattle.meaning.specs.Desk.{line, pathFrame, pathFrames}
-use Rattle.desk_frames.specs.Lines.{Wrote, Bytes, cellPaths, WholePaths}
-use Rattle.desk_frames.proofs.Lines.{wrote-none, wrote-then, wrote-length, line-length}
+use Rattle.desk_frames.specs.Lines.{Bytes, cellPaths, WholePaths}
+use Rattle.meaning.specs.Areas.{Wrote}
+use Rattle.desk_frames.proofs.Lines.{line-length}
+use Rattle.meaning.proofs.Wrote.{wrote-none, wrote-then, wrote-length}
 
 -- ---- the next path of the cells
 

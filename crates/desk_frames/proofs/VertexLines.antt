@@ -11,8 +11,10 @@ use Rattle.meaning.specs.Desk.{line, verdictFrame, pathFrames}
 use Rattle.kinds.specs.declared.Verdict.{Verdict}
 use Rattle.kinds.specs.declared.Verdict.the-variants.{Misses}
 use Rattle.kinds.specs.Numbers.{verdictNumbers}
-use Rattle.desk_frames.specs.Lines.{Wrote, WholePaths, WholeShown, cellPaths, shownPaths, shownLines}
-use Rattle.desk_frames.proofs.Lines.{wrote-then, wrote-length, line-length}
+use Rattle.desk_frames.specs.Lines.{WholePaths, WholeShown, cellPaths, shownPaths, shownLines}
+use Rattle.meaning.specs.Areas.{Wrote}
+use Rattle.desk_frames.proofs.Lines.{line-length}
+use Rattle.meaning.proofs.Wrote.{wrote-then, wrote-length}
 
 module _ (q : Place) (r : Verdict) (cs : List ℕ) where
   unfoldable head : List ℕ

@@ -1,9 +1,7 @@
--- What writing into a lent area promises, and the paths that cells hold. Assumes nothing.
-use mathlib.Core.Path.{_≡_}
-use Prim.Native.Nat.{ℕ, zero, suc, _+_, _≤_, _<_}
+-- The paths that cells hold, and the lines of a vertex. Assumes nothing.
+use Prim.Native.Nat.{ℕ, zero, suc, _≤_, _<_}
 use mathlib.Core.List.{List, [], _∷_}
 use lib.ListN.{length, take, drop, getD}
-use lib.Seq.{sets}
 use Rattle.meaning.specs.Paths.{Path}
 use Rattle.meaning.specs.Lists.{gather}
 use Rattle.meaning.specs.Desk.{line, verdictFrame, pathFrames}
@@ -11,11 +9,6 @@ use Rattle.meaning.specs.Whole.{Place}
 use Rattle.kinds.specs.declared.Verdict.{Verdict}
 use Rattle.kinds.specs.declared.Verdict.the-variants.{Meets, Misses, Unfinished, Refused}
 use Rattle.kinds.specs.Numbers.{verdictNumbers}
-
--- the bytes stand in the area from a place on, all else is unchanged, and the next place is behind them
-pub record Wrote (bytes : List ℕ) (before : List ℕ) (at : ℕ) (after : List ℕ) (next : ℕ) : Type 0 where
-  pub cells : after ≡ sets before at bytes
-  pub end : next ≡ at + length bytes
 
 -- ---- cells that hold paths, each with its length before it
 

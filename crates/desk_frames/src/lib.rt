@@ -15,7 +15,8 @@ ghost use Prim.Native.Nat.{_+_, _≤_};
 ghost use lib.ListN.{length, getD};
 ghost use Rattle.meaning.specs.Desk.{line, verdictFrame, countsFrame, refusalFrame};
 ghost use Rattle.kinds.specs.Numbers.{refusalNumber, verdictNumbers};
-ghost use Rattle.desk_frames.specs.Lines.{Wrote, WholeShown, shownLines};
+ghost use Rattle.desk_frames.specs.Lines.{WholeShown, shownLines};
+ghost use Rattle.meaning.specs.Areas.{Wrote};
 
 // A vertex's verdict, and after a miss one path a higher task, out of the witness area's cells.
 pub fn vertex_lines(

@@ -4,7 +4,7 @@ ghost use Prim.Native.Nat.{_+_, _*_, _≤_, _<_};
 ghost use lib.ListN.{length};
 ghost use Rattle.meaning.specs.Lists.{gather};
 ghost use Rattle.meaning.specs.Desk.{digit, digits, line};
-ghost use Rattle.desk_frames.specs.Lines.{Wrote};
+ghost use Rattle.meaning.specs.Areas.{Wrote};
 
 fn digit(n: u8) -> u8
     requires { ⌜ n < 16 ⌝ }

@@ -6,7 +6,8 @@ ghost use Prim.Native.Nat.{_+_, _*_, _≤_, _<_};
 ghost use lib.ListN.{length};
 ghost use Rattle.meaning.specs.Lists.{gather};
 ghost use Rattle.meaning.specs.Desk.{digits, line, pathFrame, pathFrames};
-ghost use Rattle.desk_frames.specs.Lines.{Wrote, Bytes, WholePaths, cellPaths};
+ghost use Rattle.desk_frames.specs.Lines.{Bytes, WholePaths, cellPaths};
+ghost use Rattle.meaning.specs.Areas.{Wrote};
 
 fn wide(x: u16) -> usize
     ensures { λ r. ⌜ r ≡ x ⌝ }

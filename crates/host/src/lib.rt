@@ -16,7 +16,7 @@ use kinds::verdict_place;
 use kinds::verdict_value;
 ghost use mathlib.Core.Path.{_≡_};
 ghost use lib.ListN.{length};
-ghost use Rattle.desk_frames.specs.Lines.{Wrote};
+ghost use Rattle.meaning.specs.Areas.{Wrote};
 ghost use Rattle.judge.specs.Desk.{outputInto};
 ghost use Rattle.judge.specs.Whole.{meantCounts};
 ghost use Rattle.host.specs.Told.{VertexTold, countsNumber, TableTold};

@@ -15,8 +15,9 @@ use Rattle.meaning.specs.Whole.{Place, places, verdictAt, verdicts, countsOf}
 use Rattle.meaning.specs.Desk.{line, countsFrame, deskVerdict}
 use Rattle.meaning.proofs.Whole.{verdict-at, desk-witness}
 use Rattle.kinds.specs.declared.Verdict.{Verdict}
-use Rattle.desk_frames.specs.Lines.{Wrote, WholeShown, shownLines}
-use Rattle.desk_frames.proofs.Lines.{wrote-none, wrote-then, wrote-length}
+use Rattle.desk_frames.specs.Lines.{WholeShown, shownLines}
+use Rattle.meaning.specs.Areas.{Wrote}
+use Rattle.meaning.proofs.Wrote.{wrote-none, wrote-then, wrote-length}
 use Rattle.judge.specs.declared.Counts.{Counts}
 use Rattle.judge.specs.Judged.{Answered}
 use Rattle.judge.specs.Whole.{firstPlace, nextPlace, There, meantCounts, noCounts, total, oneMore}

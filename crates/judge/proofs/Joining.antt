@@ -26,11 +26,11 @@ use Rattle.walk.specs.Rows.{rowStart}
 use Rattle.walk.specs.Lent.{Walkable}
 use Rattle.walk.specs.Told.{sizes, RowsHold}
 use Rattle.table.specs.declared.Table.{Table}
-use Rattle.table.specs.Record.{tableOf}
+use Rattle.table.specs.Record.{tableOf, Held}
 use Rattle.areas.specs.declared.above.Above.{Above}
-use Rattle.areas.specs.Above.{Held, pathCounts, Counted}
+use Rattle.areas.specs.Above.{pathCounts, Counted}
 use Rattle.areas.specs.Stretches.{stretches}
-use Rattle.areas.proofs.Records.{held-count, held-sound}
+use Rattle.table.proofs.Records.{held-count, held-sound}
 use Rattle.areas.proofs.Filling.{at, rows-all, sofar-length, stretches-size}
 
 -- a cell of the j-th of lists that stand one after the other

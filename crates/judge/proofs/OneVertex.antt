@@ -18,13 +18,13 @@ use Rattle.kinds.specs.declared.Verdict as Kinds
 use Rattle.kinds.specs.declared.Verdict.the-variants as Kind
 use Rattle.kinds.specs.Numbers.{refusalNumber}
 use Rattle.table.specs.declared.Table.{Table}
-use Rattle.table.specs.Record.{tableOf}
+use Rattle.table.specs.Record.{tableOf, Held}
 use Rattle.table.specs.Record as Blank
 use Rattle.areas.specs.declared.above.Above.{Above}
-use Rattle.areas.specs.Above.{Held, pathCounts, Counted}
+use Rattle.areas.specs.Above.{pathCounts, Counted}
 use Rattle.judge.specs.Judged.{Answered}
-use Rattle.areas.proofs.Records.{held-count}
-use Rattle.areas.proofs.Vertices.{ownTask, ownVertex, own-size, job-sound, job-d, job-e}
+use Rattle.table.proofs.Records.{held-count}
+use Rattle.table.proofs.Vertices.{ownTask, ownVertex, own-size, job-sound, job-d, job-e}
 use Rattle.areas.proofs.Counting.{rows-fit}
 use Rattle.areas.proofs.Filling.{rows-all}
 use Rattle.judge.proofs.Sheet.{none-crowded, first-crowded, need-rows, no-task, no-vertex, at-9, at-10, at-11, at-walk}

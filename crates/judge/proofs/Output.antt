@@ -21,8 +21,9 @@ use Rattle.kinds.specs.Numbers.{refusalNumber}
 use Rattle.table.specs.declared.Table.{Table}
 use Rattle.table.specs.Record.{tableOf}
 use Rattle.reader.proofs.Result.{TableRead, LineRefused}
-use Rattle.desk_frames.specs.Lines.{Wrote}
-use Rattle.desk_frames.proofs.Lines.{wrote-none, wrote-length, line-length}
+use Rattle.meaning.specs.Areas.{Wrote}
+use Rattle.desk_frames.proofs.Lines.{line-length}
+use Rattle.meaning.proofs.Wrote.{wrote-none, wrote-length}
 use Rattle.judge.specs.Desk.{longestOutput, tableOutput, outputInto}
 use Rattle.judge.proofs.DeskLines.{linesOf, countsLine, table-lines, lines-fit}
 

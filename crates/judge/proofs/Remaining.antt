@@ -16,11 +16,10 @@ use Rattle.meaning.specs.Sound.{SoundTable}
 use Rattle.meaning.specs.Whole.{Place, placesFrom, places}
 use Rattle.meaning.proofs.Lists.{mem-getD}
 use Rattle.table.specs.declared.Table as Record
-use Rattle.table.specs.Record.{tableOf}
-use Rattle.areas.specs.Above.{Held}
+use Rattle.table.specs.Record.{tableOf, Held}
 use Rattle.judge.specs.Whole.{firstPlace, size, nextPlace, There}
-use Rattle.areas.proofs.Records.{held-count}
-use Rattle.areas.proofs.Vertices.{ownTask, own-size, own-few}
+use Rattle.table.proofs.Records.{held-count}
+use Rattle.table.proofs.Vertices.{ownTask, own-size, own-few}
 
 abbrev at : ℕ → ℕ → Place
 at i v = record { task = i; vertex = v }

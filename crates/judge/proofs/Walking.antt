@@ -14,13 +14,12 @@ use Rattle.meaning.specs.Table.{higher}
 use Rattle.meaning.specs.Paths.{Path, pathsOf}
 use Rattle.meaning.specs.Groups.{count, witness}
 use Rattle.meaning.specs.Verdict.{meets, misses, unfinished, Listed, loadOf, listed, topOf, pathsIn, cellsOf, decided, walked}
-use Rattle.meaning.specs.Areas.{written, zeroed}
+use Rattle.meaning.specs.Areas.{written, zeroed, Wrote}
 use Rattle.meaning.proofs.Lists.{getD-mapped}
 use Rattle.kinds.specs.declared.Verdict.the-variants as Kinds
 use Rattle.table.specs.declared.Table.{Table}
-use Rattle.table.specs.Record.{tableOf}
+use Rattle.table.specs.Record.{tableOf, Held}
 use Rattle.lister.specs.Columns.{mostCounted}
-use Rattle.desk_frames.specs.Lines.{Wrote}
 use Rattle.walk.specs.declared.Ending.the-variants.{Meets, Misses, Unfinished}
 use Rattle.walk.specs.declared.Walked.{Walked}
 use Rattle.walk.specs.Steps.{runRows}
@@ -28,7 +27,7 @@ use Rattle.walk.specs.Lent.{Walkable}
 use Rattle.walk.specs.Told.{chosen, AtPaths, Says}
 use Rattle.walk.proofs.Told.{walk-says, places-whole}
 use Rattle.areas.specs.declared.above.Above.{Above}
-use Rattle.areas.specs.Above.{Held, pathCounts, Counted}
+use Rattle.areas.specs.Above.{pathCounts, Counted}
 use Rattle.areas.specs.Stretches.{stretches}
 use Rattle.areas.specs.Witness.{pathsAt}
 use Rattle.judge.specs.Judged.{Answered}

@@ -15,12 +15,11 @@ use Rattle.meaning.specs.Whole.{Place, verdictAt, needUnless, tableNeed}
 use Rattle.meaning.proofs.Whole.{verdict-at, desk-witness}
 use Rattle.kinds.specs.declared.Verdict.{Verdict}
 use Rattle.table.specs.declared.Table as Record
-use Rattle.table.specs.Record.{tableOf}
+use Rattle.table.specs.Record.{tableOf, Held}
 use Rattle.judge.specs.declared.Counts.{Counts}
-use Rattle.areas.specs.Above.{Held}
 use Rattle.judge.specs.Judged.{Answered}
 use Rattle.judge.specs.Whole.{firstPlace, nextPlace, There, noCounts, oneMore, total, TableCounted}
-use Rattle.areas.proofs.Records.{held-count}
+use Rattle.table.proofs.Records.{held-count}
 use Rattle.areas.proofs.Fronts.{zeroed-twice}
 use Rattle.judge.proofs.Remaining.{remaining, remaining-first, remaining-next, remaining-none, Reached, reached-first, reached-there, reached-in, reached-next, reached-fewer}
 use Rattle.judge.proofs.Totals.{CountedSoFar, counted-first, counted-next, counted-all, counted-few}

@@ -9,13 +9,12 @@ use Rattle.meaning.specs.Table.{Task, Table, higher}
 use Rattle.meaning.specs.Text.{unreadable, read}
 use Rattle.meaning.specs.Paths.{Path, pathsOf}
 use Rattle.meaning.specs.Verdict.{cellsOf, deadline}
-use Rattle.meaning.specs.Areas.{written}
+use Rattle.meaning.specs.Areas.{written, Wrote}
 use Rattle.meaning.specs.Demands.{Overloadable, First, C, Admitted, vertexTotal}
 use Rattle.kinds.specs.declared.RefusedAt.{RefusedAt}
 use Rattle.kinds.specs.declared.Verdict.{Verdict}
 use Rattle.kinds.specs.declared.Verdict.the-variants.{Meets, Misses, Unfinished, Refused}
 use Rattle.kinds.specs.Numbers.{refusalNumber}
-use Rattle.desk_frames.specs.Lines.{Wrote}
 use Rattle.judge.specs.declared.Counts.{Counts}
 use Rattle.judge.specs.declared.TableVerdict.{TableVerdict}
 use Rattle.judge.specs.declared.TableVerdict.the-variants as Whole

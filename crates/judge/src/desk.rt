@@ -10,9 +10,8 @@ use desk_frames::vertex_lines;
 use table::Table;
 ghost use Prim.Native.Nat.{_≤_};
 ghost use lib.ListN.{length};
-ghost use Rattle.table.specs.Record.{tableOf};
-ghost use Rattle.desk_frames.specs.Lines.{Wrote};
-ghost use Rattle.areas.specs.Above.{Held};
+ghost use Rattle.table.specs.Record.{tableOf, Held};
+ghost use Rattle.meaning.specs.Areas.{Wrote};
 ghost use Rattle.judge.specs.Desk.{longestOutput, tableOutput};
 
 const BUDGET: u32 = 100000;

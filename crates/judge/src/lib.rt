@@ -20,7 +20,7 @@ use reader::Status;
 use reader::read;
 ghost use mathlib.Core.Path.{_≡_};
 ghost use lib.ListN.{length};
-ghost use Rattle.desk_frames.specs.Lines.{Wrote};
+ghost use Rattle.meaning.specs.Areas.{Wrote};
 ghost use Rattle.judge.specs.Judged.{Judged};
 ghost use Rattle.judge.specs.Whole.{TableJudged};
 ghost use Rattle.judge.specs.Desk.{longestOutput, noOutput, outputInto};

@@ -3,8 +3,7 @@ use kinds::TaskNumber;
 use kinds::VertexNumber;
 use table::Table;
 ghost use mathlib.Core.Path.{_≡_};
-ghost use Rattle.table.specs.Record.{tableOf};
-ghost use Rattle.areas.specs.Above.{Held};
+ghost use Rattle.table.specs.Record.{tableOf, Held};
 ghost use Rattle.judge.specs.Whole.{meantPlace, firstPlace, nextPlace, There};
 
 pub(crate) struct Place {

@@ -21,8 +21,8 @@ ghost use Rattle.meaning.specs.Table.{higher};
 ghost use Rattle.meaning.specs.Verdict.{walked};
 ghost use Rattle.meaning.specs.Areas.{workNeed};
 ghost use Rattle.meaning.specs.Judge.{judged};
-ghost use Rattle.table.specs.Record.{tableOf};
-ghost use Rattle.areas.specs.Above.{Held, pathCounts, Counted};
+ghost use Rattle.table.specs.Record.{tableOf, Held};
+ghost use Rattle.areas.specs.Above.{pathCounts, Counted};
 ghost use Rattle.judge.specs.Judged.{Answered};
 
 // A job of e ticks and deadline d under the first h tasks, none of which has too many paths, with areas that suffice.

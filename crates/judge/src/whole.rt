@@ -7,8 +7,7 @@ use crate::places::first_place;
 use crate::places::next_place;
 use crate::vertex::judge_vertex;
 use table::Table;
-ghost use Rattle.table.specs.Record.{tableOf};
-ghost use Rattle.areas.specs.Above.{Held};
+ghost use Rattle.table.specs.Record.{tableOf, Held};
 ghost use Rattle.judge.specs.Whole.{TableCounted};
 
 // A witness area of its own, as long as any vertex needs, so that no vertex is refused by 11.

@@ -12,7 +12,7 @@ use Rattle.meaning.specs.Table as Meant
 use Rattle.meaning.specs.Sound.{SoundTask, EdgeBefore}
 use Rattle.meaning.proofs.Lists.{mem-getD}
 use Rattle.table.specs.declared.Task.{Task}
-use Rattle.table.specs.Record.{noVertex, noEdge, vertexRecord, edgeRecord, taskRecord}
+use Rattle.table.specs.Record.{noVertex, noEdge, vertexRecord, edgeRecord, taskRecord, taskOf, HeldTask}
 use Rattle.table.proofs.Record.{getD-padded, length-padded}
 use Rattle.lister.specs.Columns.{edge, Ready}
 use Rattle.lister.proofs.TaskColumns.{noMeantEdge}
@@ -52,7 +52,7 @@ module _ (k : Meant.Task) (s : SoundTask k) where
     | no q ↦ from-rises (meantAt i) (meantAt j) (before i j (omega arith) h)
   ]
 
-  pub ready-record : Ready (taskRecord k)
+  ready-record : Ready (taskRecord k)
   unfolding meantAt
   ready-record =
       let each : (j : ℕ) → j < length (k .edges) → _ = λ j h. s .eachEdge (getD (k .edges) j noMeantEdge) (mem-getD noMeantEdge (k .edges) j h) in
@@ -68,5 +68,5 @@ module _ (k : Meant.Task) (s : SoundTask k) where
         fanned = λ i j a h. rw (edge-is i (omega arith), edge-is j h) (to-rises (meantAt i) (meantAt j) (before i j a h));
       }
 
-pub ready : (k : Meant.Task) (t : Task) → SoundTask k → t ≡ taskRecord k → Ready t
-ready k t s e = subst Ready (sym e) (ready-record k s)
+pub ready : (t : Task) → HeldTask t → Ready t
+ready t h = subst Ready (sym (h .whole)) (ready-record (taskOf t) (h .sound))

@@ -23,8 +23,8 @@ ghost use mathlib.Core.List.{List, map};
 ghost use lib.ListN.{length, getD};
 ghost use Rattle.meaning.specs.Bounds.{largestD};
 ghost use Rattle.meaning.specs.Paths.{pathsOf};
-ghost use Rattle.table.specs.Record.{taskOf};
-ghost use Rattle.lister.specs.Columns.{Ready, mostCounted};
+ghost use Rattle.table.specs.Record.{taskOf, HeldTask};
+ghost use Rattle.lister.specs.Columns.{mostCounted};
 ghost use Rattle.lister.specs.Place.{pathRecord};
 ghost use Rattle.lister.specs.Rows.{Room, putRows, loadRow};
 
@@ -36,7 +36,7 @@ pub struct Path {
 
 // How many complete paths a task has for horizon d, exactly up to the cap, and the cap above.
 pub fn path_count(t: Task, d: Ticks, cap: usize) -> usize
-    requires { ⌜ Ready t ⌝ }
+    requires { ⌜ HeldTask t ⌝ }
     requires { ⌜ (0 < d .0) × (0 < cap) × (cap ≤ mostCounted) ⌝ }
     ensures { λ r. ⌜ r ≡ min cap (length (pathsOf (taskOf t) (d .0))) ⌝ }
 {
@@ -49,7 +49,7 @@ pub fn path_count(t: Task, d: Ticks, cap: usize) -> usize
 
 // The complete path of place i; of length 0, with zeros alone, where there is none.
 pub fn path_at(t: Task, d: Ticks, i: usize) -> Path
-    requires { ⌜ Ready t ⌝ }
+    requires { ⌜ HeldTask t ⌝ }
     requires { ⌜ (0 < d .0) × (d .0 ≤ largestD) × (i ≤ mostCounted) ⌝ }
     ensures { λ r. ⌜ r ≡ pathRecord (getD (pathsOf (taskOf t) (d .0)) i List.[]) ⌝ }
 {
@@ -62,7 +62,7 @@ pub fn path_at(t: Task, d: Ticks, i: usize) -> Path
 
 // The loads of the path of place i at t from 1 to d are row 2i of the part, each row of d cells; the rows between are unchanged.
 pub fn path_rows(part: &mut [u32], t: Task, d: Ticks)
-    requires { ⌜ Ready t ⌝ }
+    requires { ⌜ HeldTask t ⌝ }
     requires { ⌜ (0 < d .0) × (d .0 ≤ largestD) ⌝ }
     requires { ⌜ Room (d .0) (length (pathsOf (taskOf t) (d .0))) (length (now part)) ⌝ }
     ensures { λ _. ⌜ now (part .exit) ≡ putRows (d .0) 0 (map (loadRow (taskOf t) (d .0)) (pathsOf (taskOf t) (d .0))) (now (part .entry)) ⌝ }

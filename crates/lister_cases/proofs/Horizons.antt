@@ -10,19 +10,17 @@ use Rattle.meaning.specs.Paths.{pathsOf}
 use Rattle.meaning.proofs.PathsOf.{paths-some}
 use Rattle.table.specs.declared.Vertex.{Vertex}
 use Rattle.table.specs.declared.Table.{Table}
-use Rattle.table.specs.Record.{taskOf, tableOf}
-use Rattle.lister.specs.Columns.{Ready}
-use Rattle.areas.specs.Above.{Held}
-use Rattle.areas.proofs.Records.{held-count, held-sound, held-ready, held-is}
-use Rattle.areas.proofs.Vertices.{ownTask, ownVertex, own-size, job-is, job-sound}
+use Rattle.table.specs.Record.{taskOf, tableOf, Held, HeldTask}
+use Rattle.table.proofs.Records.{held-count, held-sound, held-one, held-is}
+use Rattle.table.proofs.Vertices.{ownTask, ownVertex, own-size, job-is, job-sound}
 
 module _ (t : Table) (k : Held t) where
   pub last-task : 1 ≤ t .n
   last-task = omega (arith, held-count t k, k .sound .someTask)
 
-  pub task-asks : (j : ℕ) → j < t .n → (d : ℕ) → Ready (ownTask t j) × (0 < length (pathsOf (taskOf (ownTask t j)) d))
+  pub task-asks : (j : ℕ) → j < t .n → (d : ℕ) → HeldTask (ownTask t j) × (0 < length (pathsOf (taskOf (ownTask t j)) d))
   task-asks j l d =
-      (held-ready t k _ j l, subst (λ (x : Meant.Task). 0 < length (pathsOf x d)) (sym (held-is t k _ j l)) (paths-some (taskAt (tableOf t) j) (held-sound t k j l) d))
+      (held-one t k _ j l, subst (λ (x : Meant.Task). 0 < length (pathsOf x d)) (sym (held-is t k _ j l)) (paths-some (taskAt (tableOf t) j) (held-sound t k j l) d))
 
   pub horizon : (j : ℕ) → j < t .n → (0 < ownVertex t j 0 .d .0) × (ownVertex t j 0 .d .0 ≤ largestD)
   horizon j l =

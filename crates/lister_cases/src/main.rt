@@ -17,7 +17,7 @@ ghost use mathlib.Core.Path.{_≡_};
 ghost use Prim.Native.Nat.{_-_, _*_};
 ghost use lib.ListN.{length};
 ghost use Rattle.meaning.specs.Bounds.{largestD, mostPaths};
-ghost use Rattle.areas.specs.Above.{Held};
+ghost use Rattle.table.specs.Record.{Held};
 
 fn list_table(work: &mut [u32], t: Table)
     requires { ⌜ Held t × (length (now work) ≡ (2 * mostPaths - 1) * largestD) ⌝ }

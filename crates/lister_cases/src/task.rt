@@ -12,8 +12,7 @@ ghost use Prim.Native.Nat.{_-_, _*_, _≤_, _<_};
 ghost use lib.ListN.{length};
 ghost use Rattle.meaning.specs.Bounds.{largestD, mostPaths};
 ghost use Rattle.meaning.specs.Paths.{pathsOf};
-ghost use Rattle.table.specs.Record.{taskOf};
-ghost use Rattle.lister.specs.Columns.{Ready};
+ghost use Rattle.table.specs.Record.{taskOf, HeldTask};
 ghost use Rattle.ranges.specs.Stretch.{stretchCells};
 
 // A load at tick t, times t.
@@ -44,7 +43,7 @@ fn weigh(cells: &[u32], d: usize) -> u64
 
 // The task's stretch, from the front of the area; gives its number of cells.
 fn fill_stretch(work: &mut [u32], t: Task, n: usize, d: Ticks) -> usize
-    requires { ⌜ Ready t ⌝ }
+    requires { ⌜ HeldTask t ⌝ }
     requires { ⌜ (0 < d .0) × (d .0 ≤ largestD) × (length (now work) ≡ (2 * mostPaths - 1) * largestD) ⌝ }
     requires { ⌜ (0 < n) × (n ≤ mostPaths) × (n ≡ length (pathsOf (taskOf t) (d .0))) ⌝ }
     ensures { λ r. ⌜ r ≡ stretchCells (d .0) n ⌝ }
@@ -55,7 +54,7 @@ fn fill_stretch(work: &mut [u32], t: Task, n: usize, d: Ticks) -> usize
 }
 
 fn print_loads(work: &mut [u32], t: Task, n: usize, d: Ticks)
-    requires { ⌜ Ready t ⌝ }
+    requires { ⌜ HeldTask t ⌝ }
     requires { ⌜ (0 < d .0) × (d .0 ≤ largestD) × (length (now work) ≡ (2 * mostPaths - 1) * largestD) ⌝ }
     requires { ⌜ (0 < n) × (n ≤ mostPaths) × (n ≡ length (pathsOf (taskOf t) (d .0))) ⌝ }
 {
@@ -66,7 +65,7 @@ fn print_loads(work: &mut [u32], t: Task, n: usize, d: Ticks)
 }
 
 fn print_first(t: Task, n: usize, d: Ticks)
-    requires { ⌜ Ready t ⌝ }
+    requires { ⌜ HeldTask t ⌝ }
     requires { ⌜ (0 < d .0) × (d .0 ≤ largestD) ⌝ }
 {
     let mut i: usize = 0;
@@ -80,7 +79,7 @@ fn print_first(t: Task, n: usize, d: Ticks)
 }
 
 pub(crate) fn list_task(work: &mut [u32], t: Task, d: Ticks)
-    requires { ⌜ Ready t × (0 < length (pathsOf (taskOf t) (d .0))) ⌝ }
+    requires { ⌜ HeldTask t × (0 < length (pathsOf (taskOf t) (d .0))) ⌝ }
     requires { ⌜ (0 < d .0) × (d .0 ≤ largestD) × (length (now work) ≡ (2 * mostPaths - 1) * largestD) ⌝ }
 {
     let n = path_count(t, d, 65);

@@ -1,4 +1,5 @@
 pub mod Lists
+pub mod Wrote
 pub mod Rising
 pub mod Edges
 pub mod Onward

@@ -1,7 +1,9 @@
 -- Lent areas: what a vertex needs of them, and what they hold after its verdict. Assumes nothing.
+use mathlib.Core.Path.{_≡_}
 use Prim.Native.Nat.{ℕ, _+_, _-_, _*_}
 use mathlib.Core.List.{List, _++_, map}
 use lib.ListN.{length, drop, replicate}
+use lib.Seq.{sets}
 use Rattle.meaning.specs.Lists.{sum}
 use Rattle.meaning.specs.Table.{Task, Table, higher}
 use Rattle.meaning.specs.Paths.{pathsOf}
@@ -9,9 +11,13 @@ use Rattle.meaning.specs.Verdict.{Verdict, meets, misses, unfinished, re
 
 -- ---- needs
 
--- the rows of one task: a range for each path, and one for each split
+-- the rows of n paths: a range for each path, and one for each split
+abbrev pub rowsFor : ℕ → ℕ
+rowsFor n = 2 * n - 1
+
+-- the rows of one task
 abbrev pub rowsOf : ℕ → Task → ℕ
-rowsOf d k = 2 * length (pathsOf k d) - 1
+rowsOf d k = rowsFor (length (pathsOf k d))
 
 -- d times the sum over higher tasks of (2 x paths - 1)
 abbrev pub workNeed : Table → ℕ → ℕ → ℕ
@@ -44,3 +50,10 @@ witnessAfter (meets c) cells = cells
 witnessAfter (misses c ws) cells = written (cellsOf ws) cells
 witnessAfter (unfinished b) cells = cells
 witnessAfter (refused k place) cells = cells
+
+-- ---- what writing into a lent area promises
+
+-- the bytes stand in the area from a place on, all else is unchanged, and the next place is behind them
+pub record Wrote (bytes : List ℕ) (before : List ℕ) (at : ℕ) (after : List ℕ) (next : ℕ) : Type 0 where
+  pub cells : after ≡ sets before at bytes
+  pub end : next ≡ at + length bytes

@@ -13,8 +13,8 @@ ghost use lib.ListN.{length, take, drop};
 ghost use lib.Seq.{sets};
 ghost use Rattle.meaning.specs.Bounds.{largestD};
 ghost use Rattle.meaning.specs.Paths.{pathsOf};
-ghost use Rattle.table.specs.Record.{taskOf};
-ghost use Rattle.lister.specs.Columns.{Ready, mostCounted};
+ghost use Rattle.table.specs.Record.{taskOf, HeldTask};
+ghost use Rattle.lister.specs.Columns.{mostCounted};
 ghost use Rattle.ranges.specs.Stretch.{largerCells, largestRow, stretchCells, singleRows, inOrder, stretchOf};
 
 fn larger(x: u32, y: u32) -> u32
@@ -56,7 +56,7 @@ fn build(part: &mut [u32], len: usize, d: usize)
 
 // A task's stretch for horizon d: the rows of all ranges of its paths.
 pub fn fill(part: &mut [u32], t: Task, paths: usize, d: Ticks)
-    requires { ⌜ Ready t ⌝ }
+    requires { ⌜ HeldTask t ⌝ }
     requires { ⌜ (0 < d .0) × (d .0 ≤ largestD) × (paths ≤ mostCounted) × (0 < paths) × (paths ≡ length (pathsOf (taskOf t) (d .0))) × (length (now part) ≡ stretchCells (d .0) paths) ⌝ }
     ensures { λ _. ⌜ now (part .exit) ≡ stretchOf (taskOf t) (d .0) ⌝ }
 {

@@ -1,1 +1,3 @@
 pub mod Record
+pub mod Records
+pub mod Vertices

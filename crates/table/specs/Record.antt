@@ -1,9 +1,11 @@
 -- The record of a table, every cell of it, and the table that a record stands for. Assumes nothing.
+use mathlib.Core.Path.{_≡_}
 use Prim.Native.Nat.{ℕ, _-_}
 use mathlib.Core.List.{List, _++_, map}
 use lib.ListN.{length, take, replicate}
 use Rattle.meaning.specs.Bounds.{mostTasks, mostVertices, mostEdges}
 use Rattle.meaning.specs.Table as Meant
+use Rattle.meaning.specs.Sound.{SoundTask, SoundTable}
 use Rattle.kinds.specs.declared.Ticks.{Ticks}
 use Rattle.kinds.specs.declared.VertexNumber.{VertexNumber}
 use Rattle.table.specs.declared.Vertex.{Vertex}
@@ -68,3 +70,14 @@ taskOf k = record { vertices = map vertexOf (take (k .nv) (k .vertices)); edges 
 
 abbrev pub tableOf : Table → Meant.Table
 tableOf t = map taskOf (take (t .n) (t .tasks))
+
+-- ---- what a reading gives
+
+-- the record of a readable table's task, and of a readable table
+pub record HeldTask (k : Task) : Type 0 where
+  pub whole : k ≡ taskRecord (taskOf k)
+  pub sound : SoundTask (taskOf k)
+
+pub record Held (t : Table) : Type 0 where
+  pub whole : t ≡ tableRecord (tableOf t)
+  pub sound : SoundTable (tableOf t)

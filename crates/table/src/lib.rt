@@ -1,5 +1,8 @@
 // What the tool judges, by value: "A table holds tasks in priority order; task 0 is highest."
 // A list is an array with its length beside it; the places behind the length hold zeros.
+use bounds::MOST_EDGES;
+use bounds::MOST_TASKS;
+use bounds::MOST_VERTICES;
 use kinds::Ticks;
 use kinds::VertexNumber;
 ghost use mathlib.Core.Path.{_≡_};
@@ -20,14 +23,14 @@ pub struct Edge {
 pub struct Task {
     pub nv: usize,
     pub ne: usize,
-    pub vertices: [Vertex; 12],
-    pub edges: [Edge; 32],
+    pub vertices: [Vertex; MOST_VERTICES],
+    pub edges: [Edge; MOST_EDGES],
 }
 
 // n tasks.
 pub struct Table {
     pub n: usize,
-    pub tasks: [Task; 8],
+    pub tasks: [Task; MOST_TASKS],
 }
 
 pub fn no_vertex() -> Vertex
@@ -57,8 +60,8 @@ pub fn no_task() -> Task
     Task {
         nv: 0,
         ne: 0,
-        vertices: [x; 12],
-        edges: [y; 32],
+        vertices: [x; MOST_VERTICES],
+        edges: [y; MOST_EDGES],
     }
 }
 
@@ -68,6 +71,6 @@ pub fn no_table() -> Table
     let k = no_task();
     Table {
         n: 0,
-        tasks: [k; 8],
+        tasks: [k; MOST_TASKS],
     }
 }

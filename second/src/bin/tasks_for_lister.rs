@@ -1,16 +1,16 @@
 //! Writes the texts that the lister is checked with: a sequence as `second list` reads it.
 //!
-//! Random tables whose tasks have from one path to far more than are allowed. The sequence is the same from run to run.
+//! The bench examples, then random tables whose tasks have from one path to far more than are allowed. The sequence is the same from run to run.
 
 #![forbid(unsafe_code)]
 
 mod made;
 
-use made::{task, Random};
+use made::{bench, task, Random};
 use second::sequence::write_sequence;
 use std::io;
 
-/// How many tables are written.
+/// How many random tables are written.
 const TABLES: usize = 200;
 
 /// How close the releases of a table's tasks are: the least and the number of separations, and the same of the horizon.
@@ -43,12 +43,12 @@ const SIZES: [Size; 5] = [
     },
 ];
 
-/// Writes tables of each size in turn, and at last an unreadable text.
+/// Writes the bench examples, R11's unreadable texts among them, and then tables of each size in turn.
 fn main() -> io::Result<()> {
     let mut random = Random(20_261_115);
+    let mut texts: Vec<_> = bench::texts().into_iter().map(String::into_bytes).collect();
     let sizes = SIZES.iter().cycle().take(TABLES);
-    let mut texts: Vec<_> = sizes.map(|size| table(&mut random, size)).collect();
-    texts.push(b"00\n".to_vec());
+    texts.extend(sizes.map(|size| table(&mut random, size)));
     write_sequence(&texts)
 }
 

@@ -1,7 +1,7 @@
 use mathlib.Core.Path.{subst₂}
 use Prim.Native.Nat.{ℕ}
 use Rattle.meaning.specs.Desk.{line, verdictFrame}
-use Rattle.desk_frames.specs.Lines.{Wrote}
+use Rattle.meaning.specs.Areas.{Wrote}
 use borrow.Author.Needs.{needs}
 use Rattle.desk_frames.proofs.verdict_line.Statement.{statement}
 use Rattle.desk_frames.proofs.verdict_line.Tie as tie

@@ -3,7 +3,7 @@ use Prim.Native.Nat.{_-_, _*_, _≤_}
 use native.Mathlib.Omega.{arith}
 use lib.ListN.{length}
 use Rattle.meaning.specs.Bounds.{largestD, mostPaths}
-use Rattle.areas.proofs.Records.{held-few}
+use Rattle.table.proofs.Records.{held-few}
 use Rattle.lister_cases.proofs.Horizons.{last-task, task-asks, horizon}
 use borrow.Author.Needs.{needs}
 use Rattle.lister_cases.proofs.list_table.Statement.{statement}

@@ -5,7 +5,7 @@ use borrow.Author.Needs.{needs}
 use Rattle.meaning.specs.Table.{higher}
 use Rattle.table.specs.Record.{tableOf}
 use Rattle.areas.specs.Above.{pathCounts, Counting}
-use Rattle.areas.proofs.Records.{held-few, held-ready}
+use Rattle.table.proofs.Records.{held-few, held-one}
 use Rattle.areas.proofs.Counting.{counting-none, counting-more, rows-fit, counts-length, calm-at, crowd-at}
 use Rattle.areas.proofs.above.count_above.Statement.{statement}
 use Rattle.areas.proofs.above.count_above.Tie as tie
@@ -29,7 +29,7 @@ add-path-count : tie.Need-add-path-count Inv-loop μ-loop
 add-path-count c = search needs
 
 path-count-requires : tie.Need-path-count-requires Inv-loop μ-loop
-path-count-requires c κs = (held-ready (c .before .before .before .args .t1) ((c .before .before .before .pre) .0) _ (c .before .before .loop .j) (search needs), ((c .before .before .before .pre) .2, omega arith, omega arith))
+path-count-requires c κs = (held-one (c .before .before .before .args .t1) ((c .before .before .before .pre) .0) _ (c .before .before .loop .j) (search needs), ((c .before .before .before .pre) .2, omega arith, omega arith))
 
 returns : tie.Need-returns Inv-loop μ-loop
 returns c = record { calm = (c .before .before .before .before .loop .inv); crowd = λ m. crowd-at (c .before .before .before .before .before .args .t1) ((c .before .before .before .before .before .pre) .0) (c .before .before .before .before .before .args .h) ((c .before .before .before .before .before .args .d) .0) ((c .before .before .before .before .before .pre) .1) _ (c .before .before .before .before .loop .j) (c .before .path-count .result) m (c .before .path-count .ensures) (search needs) }

@@ -2,7 +2,7 @@ use Prim.Native.Nat.{_-_}
 use borrow.Author.Needs.{needs}
 use Rattle.meaning.specs.Table.{higher}
 use Rattle.table.specs.Record.{tableOf}
-use Rattle.areas.proofs.Records.{held-ready}
+use Rattle.table.proofs.Records.{held-one}
 use Rattle.areas.proofs.Witnesses.{WrittenSoFar, written-none, path-asks, written-more, written-all}
 use Rattle.areas.proofs.witness.write_witness.Statement.{statement}
 use Rattle.areas.proofs.witness.write_witness.Tie as tie
@@ -29,7 +29,7 @@ array-read-path-at : tie.Need-array-read-path-at Inv-loop μ-loop
 array-read-path-at c = search needs
 
 path-at-requires : tie.Need-path-at-requires Inv-loop μ-loop
-path-at-requires c κs = (held-ready (c .before .before .before .before .args .t2) ((c .before .before .before .before .pre) .0 .0) _ (c .before .before .loop .j) (search needs), ((c .before .before .before .before .pre) .0 .2, (c .before .before .before .before .pre) .0 .3, (c .before .before .before .before .pre) .1 .0 (c .before .before .loop .j) (search needs)))
+path-at-requires c κs = (held-one (c .before .before .before .before .args .t2) ((c .before .before .before .before .pre) .0 .0) _ (c .before .before .loop .j) (search needs), ((c .before .before .before .before .pre) .0 .2, (c .before .before .before .before .pre) .0 .3, (c .before .before .before .before .pre) .1 .0 (c .before .before .loop .j) (search needs)))
 
 write-path-requires : tie.Need-write-path-requires Inv-loop μ-loop
 write-path-requires c κs = path-asks (c .before .before .before .before .before .before .args .t2) ((c .before .before .before .before .before .before .pre) .0 .0) (c .before .before .before .before .before .before .args .h) ((c .before .before .before .before .before .before .args .d) .0) ((c .before .before .before .before .before .before .pre) .0 .1) ((c .before .before .before .before .before .before .pre) .0 .2) ((c .before .before .before .before .before .before .pre) .0 .3) (c .before .before .before .before .before .before .args .t3) (c .before .before .before .before .before .before .args .witness .now) (search needs) ((c .before .before .before .before .before .before .pre) .1 .1) _ (c .before .before .before .before .loop .inv) (search needs) (c .before .path-at .result) (c .before .path-at .ensures)

@@ -1,5 +1,6 @@
 use native.Mathlib.Omega.{arith}
-use Rattle.desk_frames.proofs.Lines.{digits-end, wrote-length, wrote-line}
+use Rattle.desk_frames.proofs.Lines.{digits-end, wrote-line}
+use Rattle.meaning.proofs.Wrote.{wrote-length}
 use borrow.Author.Needs.{needs}
 use Rattle.desk_frames.proofs.line.put_line.Statement.{statement}
 use Rattle.desk_frames.proofs.line.put_line.Tie as tie

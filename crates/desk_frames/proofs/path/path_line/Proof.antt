@@ -1,6 +1,7 @@
 use native.Mathlib.Omega.{arith}
 use Rattle.meaning.specs.Desk.{pathFrame}
-use Rattle.desk_frames.proofs.Lines.{digits-end, wrote-length, wrote-line, head-then}
+use Rattle.desk_frames.proofs.Lines.{digits-end, wrote-line, head-then}
+use Rattle.meaning.proofs.Wrote.{wrote-length}
 use borrow.Author.Needs.{needs}
 use Rattle.desk_frames.proofs.path.path_line.Statement.{statement}
 use Rattle.desk_frames.proofs.path.path_line.Tie as tie

@@ -4,7 +4,7 @@ use lib.ListN.{length}
 use borrow.Author.Needs.{needs}
 use Rattle.table.specs.Record.{tableOf}
 use Rattle.judge.specs.Whole.{meantPlace}
-use Rattle.areas.proofs.Records.{held-count}
+use Rattle.table.proofs.Records.{held-count}
 use Rattle.judge.proofs.Remaining.{remaining}
 use Rattle.judge.proofs.Desking.{Desking, desking-none, there, desking-fewer, count-asks, lines-ask, desking-more, counts-ask, desking-all}
 use Rattle.judge.proofs.desk.table_lines.Statement.{statement}

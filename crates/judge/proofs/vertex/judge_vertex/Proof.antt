@@ -1,6 +1,6 @@
 use native.Mathlib.Omega.{arith}
-use Rattle.areas.proofs.Records.{held-few}
-use Rattle.areas.proofs.Vertices.{own-few}
+use Rattle.table.proofs.Records.{held-few}
+use Rattle.table.proofs.Vertices.{own-few}
 use Rattle.judge.proofs.OneVertex.{count-asks, need-small, cells-small, answer-8, answer-8-vertex, answer-9, answer-10, answer-11, walk-asks, answer-walk}
 use borrow.Author.Needs.{needs}
 use Rattle.judge.proofs.vertex.judge_vertex.Statement.{statement}

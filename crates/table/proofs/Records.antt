@@ -9,16 +9,16 @@ use Rattle.meaning.specs.Table as Meant
 use Rattle.meaning.specs.Table.{noTask, taskAt}
 use Rattle.meaning.specs.Sound.{SoundTask, SoundTable}
 use Rattle.meaning.proofs.Lists.{mem-getD, getD-mapped}
 use Rattle.table.specs.declared.Task.{Task}
 use Rattle.table.specs.declared.Table.{Table}
-use Rattle.table.specs.Record.{taskRecord, tableRecord, tableOf, taskOf}
+use Rattle.table.specs.Record.{taskRecord, tableRecord, tableOf, taskOf, HeldTask, Held}
 use Rattle.table.specs.Record as Blank
 use Rattle.table.proofs.Record.{getD-padded, length-padded, table-of-record, task-of-record}
-use Rattle.lister.specs.Columns.{Ready}
-use Rattle.lister.proofs.Readiness.{ready-record}
-use Rattle.areas.specs.Above.{Held}
 
--- the record of a sound table is held
+-- the record of a sound task is held, and that of a sound table
+pub held-task-record : (k : Meant.Task) → SoundTask k → HeldTask (taskRecord k)
+held-task-record k s = record { whole = ap taskRecord (sym (task-of-record k)); sound = subst SoundTask (sym (task-of-record k)) s }
+
 pub held-record : (ts : Meant.Table) → SoundTable ts → Held (tableRecord ts)
 held-record ts s = record { whole = ap tableRecord (sym (table-of-record ts)); sound = subst SoundTable (sym (table-of-record ts)) s }
 
@@ -45,8 +45,8 @@ module _ (t : Table) (k : Held t) where
   pub held-sound : (j : ℕ) → j < t .n → SoundTask (taskAt ts j)
   held-sound j h = k .sound .eachTask (taskAt ts j) (mem-getD noTask ts j (omega (arith, held-count)))
 
-  pub held-ready : (z : Task) (j : ℕ) → j < t .n → Ready (getD (t .tasks) j z)
-  held-ready z j h = subst Ready (sym (held-task z j h)) (ready-record (taskAt ts j) (held-sound j h))
+  pub held-one : (z : Task) (j : ℕ) → j < t .n → HeldTask (getD (t .tasks) j z)
+  held-one z j h = subst HeldTask (sym (held-task z j h)) (held-task-record (taskAt ts j) (held-sound j h))
 
   pub held-is : (z : Task) (j : ℕ) → j < t .n → taskOf (getD (t .tasks) j z) ≡ taskAt ts j
   held-is z j h = ap taskOf (held-task z j h) ∙ task-of-record (taskAt ts j)

@@ -10,14 +10,13 @@ use Rattle.meaning.specs.Table.{noVertex, taskAt, vertexAt}
 use Rattle.meaning.specs.Verdict.{ownE, deadline}
 use Rattle.meaning.specs.Sound.{SoundVertex}
 use Rattle.meaning.proofs.Lists.{mem-getD, getD-mapped}
 use Rattle.table.specs.declared.Vertex.{Vertex}
 use Rattle.table.specs.declared.Task.{Task}
 use Rattle.table.specs.declared.Table.{Table}
-use Rattle.table.specs.Record.{vertexRecord, tableOf}
+use Rattle.table.specs.Record.{vertexRecord, tableOf, Held}
 use Rattle.table.specs.Record as Blank
 use Rattle.table.proofs.Record.{getD-padded, length-padded}
-use Rattle.areas.specs.Above.{Held}
-use Rattle.areas.proofs.Records.{held-task, held-sound}
+use Rattle.table.proofs.Records.{held-task, held-sound}
 
 -- what is read where there is no task
 abbrev blankTask : Task
