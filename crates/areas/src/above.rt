@@ -1,6 +1,6 @@
 // The tasks of higher priority: how many complete paths each has, and where its stretch of the work area begins.
 use kinds::Ticks;
-use lister::path_count;
+use paths::path_count;
 use table::Table;
 ghost use Prim.Native.Nat.{_+_, _≤_, _<_};
 ghost use Rattle.meaning.specs.Bounds.{largestD};

@@ -1,7 +1,7 @@
 // "On a miss its front holds, per higher task in order, the path's length and vertices; all else in it is unchanged."
 use kinds::Ticks;
 use lister::Path;
-use lister::path_at;
+use paths::path_at;
 use table::Table;
 ghost use mathlib.Core.Path.{_≡_};
 ghost use Prim.Native.Nat.{ℕ, _+_, _*_, _≤_, _<_};
@@ -10,7 +10,7 @@ ghost use Rattle.meaning.specs.Bounds.{largestD};
 ghost use Rattle.meaning.specs.Table.{higher};
 ghost use Rattle.meaning.specs.Verdict.{cellsOf};
 ghost use Rattle.table.specs.Record.{tableOf, Held};
-ghost use Rattle.lister.specs.Columns.{mostCounted};
+ghost use Rattle.lister.specs.Ways.{mostCounted};
 ghost use Rattle.meaning.specs.Areas.{Wrote};
 ghost use Rattle.areas.specs.Witness.{pathCells, pathsAt};
 

@@ -5,7 +5,7 @@ use native.Mathlib.Omega.{arith}
 use mathlib.Core.List.{List}
 use lib.ListN.{length, getD}
 use Rattle.meaning.specs.Bounds.{mostVertices}
-use Rattle.lister.specs.Columns.{SoundColumns}
+use Rattle.columns.specs.Columns.{SoundColumns}
 use Rattle.lister.specs.Ways.{ways}
 use Rattle.lister.proofs.Ways.{byEdges, step-no, length-yes, by-edges-none, length-ways}
 

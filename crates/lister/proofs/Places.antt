@@ -10,10 +10,10 @@ use lib.ListN.{length, getD, set, length-map, List·getD-append}
 use lib.Seq.{sets, getD-append-add}
 use Rattle.meaning.specs.Bounds.{mostVertices}
 use Rattle.lister.specs.declared.place.Sought.{Sought}
-use Rattle.lister.specs.Columns.{SoundColumns}
-use Rattle.lister.specs.Ways.{ways, onBy, orStop, verticesOn}
+use Rattle.columns.specs.Columns.{SoundColumns}
+use Rattle.lister.specs.Ways.{ways, onBy, orStop, verticesBy}
 use Rattle.lister.specs.Place.{Found}
-use Rattle.lister.proofs.Stores.{set-sets}
+use Rattle.meaning.proofs.Stores.{set-sets}
 use Rattle.lister.proofs.Ways.{byEdges, step-no, step-yes, length-yes, by-edges-none, ways-step, orStop-some, length-zero}
 
 pub getD-onBy : (k : ℕ) (hs : List (List ℕ)) (i : ℕ) → i < length hs → getD (onBy k hs) i [] ≡ k ∷ getD hs i []
@@ -111,10 +111,10 @@ module _ {start to p : List ℕ} {v r i end : ℕ} {A cs : List ℕ} {k left : �
             hit = λ x. record {
               found = yes';
               end = me ∙ (let z : depth + 1 + 1 + length H ≡ depth + 1 + suc (length H) = omega arith in z) ∙ ap (λ (b : List ℕ). depth + 1 + length b) (sym w);
-              cells = ap (λ (b : List ℕ). set b depth v) (m .cells ∙ ap₂ (λ (b : List ℕ) (n' : ℕ). sets b n' (verticesOn to u H)) (g .cells) (add-one depth))
-                  ∙ set-sets (verticesOn to u H) A (suc depth) depth v (omega arith)
+              cells = ap (λ (b : List ℕ). set b depth v) (m .cells ∙ ap₂ (λ (b : List ℕ) (n' : ℕ). sets b n' (verticesBy to u H)) (g .cells) (add-one depth))
+                  ∙ set-sets (verticesBy to u H) A (suc depth) depth v (omega arith)
                   ∙ ap (λ (b : ℕ). sets A depth (v ∷ (b ∷ map (λ (j : ℕ). getD to j 0) H))) eu
-                  ∙ ap (λ (b : List ℕ). sets A depth (verticesOn to v b)) (sym w);
+                  ∙ ap (λ (b : List ℕ). sets A depth (verticesBy to v b)) (sym w);
             };
             miss = λ x. absurd (omega arith);
           }
@@ -149,7 +149,7 @@ module _ {start to p : List ℕ} {v r i end : ℕ} {A cs : List ℕ} {k left : �
           hit = λ x. record {
             found = refl;
             end = y ∙ ap (λ (b : List ℕ). depth + 1 + length b) (sym w);
-            cells = ap (λ (b : List ℕ). set b depth v) (g .cells) ∙ ap (λ (b : List ℕ). sets A depth (verticesOn to v b)) (sym w);
+            cells = ap (λ (b : List ℕ). set b depth v) (g .cells) ∙ ap (λ (b : List ℕ). sets A depth (verticesBy to v b)) (sym w);
           };
           miss = λ x. absurd (omega arith);
         }

@@ -11,7 +11,7 @@ use lib.Dec.{ltb}
 use Rattle.meaning.specs.Lists.{pick, gather}
 use Rattle.meaning.specs.Bounds.{mostVertices}
 use Rattle.meaning.proofs.Lists.{mem-getD, gather-mem, countFrom-mem}
-use Rattle.lister.specs.Columns.{SoundColumns, edgesOf}
+use Rattle.columns.specs.Columns.{SoundColumns, edgesOf}
 use Rattle.lister.specs.Ways.{orStop, onBy, waysFrom, ways}
 use Rattle.lister.proofs.Ways.{edge-below}
 

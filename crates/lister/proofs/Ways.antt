@@ -10,7 +10,7 @@ use lib.ListN.{length, getD, length-append, length-map}
 use lib.Dec.{ltb}
 use Rattle.meaning.specs.Lists.{pick, gather, countFrom}
 use Rattle.meaning.specs.Bounds.{mostVertices}
-use Rattle.lister.specs.Columns.{SoundColumns}
+use Rattle.columns.specs.Columns.{SoundColumns}
 use Rattle.lister.specs.Ways.{orStop, onBy, waysFrom, ways, allWays}
 
 module _ (start to p : List ℕ) where

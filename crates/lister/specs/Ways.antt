@@ -4,7 +4,11 @@ use mathlib.Core.List.{List, [], _∷_, map}
 use lib.ListN.{getD}
 use lib.Dec.{ltb}
 use Rattle.meaning.specs.Lists.{pick, gather, countFrom}
-use Rattle.lister.specs.Columns.{edgesOf}
+use Rattle.columns.specs.Columns.{edgesOf}
+
+-- so far paths are counted, and places of paths go: no product of these with a row's cells is too large for the code
+abbrev pub mostCounted : ℕ
+mostCounted = 65536
 
 -- one way on, to stop here, where there is no other
 abbrev pub orStop : List (List ℕ) → List (List ℕ)
@@ -30,10 +34,10 @@ module _ (start to p : List ℕ) where
   allWays d v n = gather (λ (u : ℕ). onBy u (ways u d)) (countFrom v (n - v))
 
 -- the vertices on a way from v
-abbrev pub verticesOn : List ℕ → ℕ → List ℕ → List ℕ
-verticesOn to v h = v ∷ map (λ (k : ℕ). getD to k 0) h
+abbrev pub verticesBy : List ℕ → ℕ → List ℕ → List ℕ
+verticesBy to v h = v ∷ map (λ (k : ℕ). getD to k 0) h
 
 -- the path of a first vertex and the edges taken
 abbrev pub pathBy : List ℕ → List ℕ → List ℕ
 pathBy to [] = []
-pathBy to (v ∷ h) = verticesOn to v h
+pathBy to (v ∷ h) = verticesBy to v h

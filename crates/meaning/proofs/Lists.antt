@@ -135,6 +135,10 @@ pub mem-largest : {x : ℕ} {xs : List ℕ} → List·Memᴰ x xs → x ≤ larg
 mem-largest (List·Memᴰ·head q) = omega arith
 mem-largest (List·Memᴰ·tail m) = omega (arith, mem-largest m)
 
+pub length-countFrom : (k n : ℕ) → length (countFrom k n) ≡ n
+length-countFrom k zero = refl
+length-countFrom k (suc n) = ap suc (length-countFrom (suc k) n)
+
 pub mem-countFrom : (k n v : ℕ) → k ≤ v → v < k + n → List·Memᴰ v (countFrom k n)
 mem-countFrom k zero v a b = absurd (omega arith)
 mem-countFrom k (suc n) v a b =

@@ -14,12 +14,12 @@ use Rattle.meaning.specs.Paths.{load, pathsOf}
 use Rattle.meaning.specs.Groups.{firstPart, secondPart, rangeLoad}
 use Rattle.meaning.specs.Areas.{rowsOf}
 use Rattle.meaning.specs.Sound.{SoundTask}
+use Rattle.meaning.proofs.Lists.{length-countFrom}
 use Rattle.meaning.proofs.Groups.{first-part, second-part}
 use Rattle.meaning.proofs.LoadBounds.{load-rises, range-rises, range-bound, load-bound}
 use Rattle.meaning.proofs.PathsOf.{paths-legal}
 use Rattle.ranges.specs.Stretch.{stretchCells, inside, inOrder, rangeRow, stretchOf}
 use Rattle.ranges.proofs.Rows.{order-length}
-use Rattle.ranges.proofs.WholeStretch.{ticks-length}
 
 -- ---- how many
 
@@ -27,7 +27,7 @@ use Rattle.ranges.proofs.WholeStretch.{ticks-length}
 pub stretch-length : (k : Task) (d : ℕ) → 0 < length (pathsOf k d) → length (stretchOf k d) ≡ rowsOf d k * d
 unfolding stretchOf
 stretch-length k d h =
-    order-length (rangeRow k d) d (λ ys. length-map (ticks d) (rangeLoad (load k) ys) ∙ ticks-length 1 d) (length (pathsOf k d)) (pathsOf k d) h (omega arith)
+    order-length (rangeRow k d) d (λ ys. length-map (ticks d) (rangeLoad (load k) ys) ∙ length-countFrom 1 d) (length (pathsOf k d)) (pathsOf k d) h (omega arith)
 
 -- where 9 is not the refusal, a task's need is small
 pub cells-small : (n d : ℕ) → n ≤ mostPaths → d ≤ largestD → stretchCells d n ≤ (2 * mostPaths - 1) * largestD

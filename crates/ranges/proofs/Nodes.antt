@@ -3,7 +3,7 @@ use mathlib.Core.Path.{_≡_, refl, sym, ap, ap₂, _∙_}
 use Prim.Native.Nat.{ℕ, zero, suc, _+_, _-_, _*_, _≤_, _<_}
 use native.Mathlib.Nat.{add-mul, one-mul, mul-le-mul-right}
 use native.Mathlib.Omega.{arith}
-use mathlib.Core.List.{List, _++_, map}
+use mathlib.Core.List.{List, _++_, map, map-map}
 use lib.ListN.{length, getD, take, drop, length-drop, length-map}
 use lib.Seq.{take-take, take-append-le, take-all, drop-drop, drop-append-add, drop-append-le, getD-drop, getD-take}
 use Rattle.meaning.specs.Lists.{largest, countFrom, ticks}
@@ -11,13 +11,12 @@ use Rattle.meaning.specs.Table.{Task}
 use Rattle.meaning.specs.Paths.{Path, load, pathsOf}
 use Rattle.meaning.specs.Groups.{half, firstPart, secondPart, rangeLoad}
 use Rattle.meaning.specs.Verdict.{Listed, loadOf, listed}
-use Rattle.lister.proofs.PathsAreWays.{map-map}
-use Rattle.meaning.proofs.Lists.{drop-take}
+use Rattle.meaning.proofs.Lists.{drop-take, length-countFrom}
 use Rattle.ranges.specs.Stretch.{stretchCells, inOrder, rangeRow, stretchOf}
 use Rattle.rows.specs.Order.{topRow, Node, top, low, high}
 use Rattle.ranges.proofs.Rows.{inOrder-two, first-length, second-length, order-length, order-row}
 use Rattle.rows.proofs.Order.{node-in, node-pos, top-in}
-use Rattle.ranges.proofs.WholeStretch.{ticks-length, take-map, drop-map}
+use Rattle.ranges.proofs.WholeStretch.{take-map, drop-map}
 
 module _ {X : Type 0} (row : List X → List ℕ) (d : ℕ) (hr : (ys : List X) → length (row ys) ≡ d) where
   -- the row of number i
@@ -90,7 +89,7 @@ stretch-cell k d {first} {len} h x t l u =
     let o = (2 * first + topRow len) * d in
     let r = take len (drop first (pathsOf k d)) in
     sym (getD-take d (drop o (stretchOf k d)) (t - 1) 0 (omega arith) ∙ getD-drop o (stretchOf k d) (t - 1) 0)
-    ∙ ap (λ (cells : List ℕ). getD cells (t - 1) 0) (order-node (rangeRow k d) d (λ ys. length-map (ticks d) (rangeLoad (load k) ys) ∙ ticks-length 1 d) (pathsOf k d) h x)
+    ∙ ap (λ (cells : List ℕ). getD cells (t - 1) 0) (order-node (rangeRow k d) d (λ ys. length-map (ticks d) (rangeLoad (load k) ys) ∙ length-countFrom 1 d) (pathsOf k d) h x)
     ∙ tick-at (rangeLoad (load k) r) 1 d (t - 1) (omega arith) ∙ ap (rangeLoad (load k) r) z
 
 -- the same, where each path stands beside its task
@@ -100,4 +99,4 @@ listed-cell k d {first} {len} h x t l u =
     let mk : Path → Listed = λ (w : Path). record { task = k; path = w } in
     stretch-cell k d h x t l u
     ∙ sym (ap (λ (r : List Listed). rangeLoad loadOf r t) (ap (take len) (drop-map mk first (pathsOf k d)) ∙ take-map mk len (drop first (pathsOf k d)))
-    ∙ ap largest (map-map mk (λ (y : Listed). loadOf y t) (take len (drop first (pathsOf k d)))))
+    ∙ ap largest (map-map (λ (y : Listed). loadOf y t) mk (take len (drop first (pathsOf k d)))))

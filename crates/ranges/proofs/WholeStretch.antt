@@ -12,9 +12,10 @@ use Rattle.meaning.specs.Lists.{countFrom, ticks}
 use Rattle.meaning.specs.Table.{Task}
 use Rattle.meaning.specs.Paths.{load, pathsOf}
 use Rattle.meaning.specs.Groups.{half, firstPart, secondPart, rangeLoad}
-use Rattle.lister.specs.Columns.{mostCounted}
-use Rattle.lister.specs.Rows.{Room, putRows, loadRow}
-use Rattle.lister.proofs.Stores.{sets-drop, sets-take}
+use Rattle.lister.specs.Ways.{mostCounted}
+use Rattle.loads.specs.Rows.{Room, putRows, loadRow}
+use Rattle.meaning.proofs.Lists.{length-countFrom}
+use Rattle.meaning.proofs.Stores.{sets-drop, sets-take}
 use Rattle.ranges.specs.Stretch.{largerCells, largestRow, stretchCells, singleRows, inside, inOrder, rangeRow, stretchOf}
 
 row-at : (d i : ℕ) → 2 * (i + 1) * d ≡ 2 * d + 2 * i * d
@@ -96,10 +97,6 @@ range-rows : (k : Task) (d : ℕ) (r : List (List ℕ)) → largestRow d (map (l
 range-rows k d [] = zeros 1 d
 range-rows k d (w ∷ ws) = ap (λ (z : List ℕ). largerCells z (loadRow k d w)) (range-rows k d ws) ∙ larger-map (rangeLoad (load k) ws) (load k w) (ticks d)
 
-pub ticks-length : (a n : ℕ) → length (countFrom a n) ≡ n
-ticks-length a zero = refl
-ticks-length a (suc n) = ap suc (ticks-length (suc a) n)
-
 pub stretch-is : (k : Task) (d m : ℕ) (P Q R : List ℕ) → m ≡ length (pathsOf k d) → stretchCells d m ≤ length P
     → Q ≡ putRows d 0 (map (loadRow k d) (pathsOf k d)) P → R ≡ inOrder (largestRow d) m (singleRows d m Q) → R ≡ stretchOf k d
 unfolding stretchOf
@@ -107,7 +104,7 @@ stretch-is k d m P Q R hm hl eQ eR =
     let W = pathsOf k d in
     let q : singleRows d m Q ≡ map (loadRow k d) W =
     ap₂ (λ (a : ℕ) (b : List ℕ). singleRows d a b) hm eQ
-    ∙ put-singles (loadRow k d) d (λ w. length-map (ticks d) (load k w) ∙ ticks-length 1 d) W P (subst (λ (a : ℕ). stretchCells d a ≤ length P) hm hl) in
+    ∙ put-singles (loadRow k d) d (λ w. length-map (ticks d) (load k w) ∙ length-countFrom 1 d) W P (subst (λ (a : ℕ). stretchCells d a ≤ length P) hm hl) in
     eR ∙ ap (inOrder (largestRow d) m) q ∙ order-map (loadRow k d) (largestRow d) (rangeRow k d) (range-rows k d) m W
     ∙ ap (λ (n : ℕ). inOrder (rangeRow k d) n W) hm
 

@@ -4,7 +4,7 @@
 // A stretch has a row of d cells for each range of its task's paths, in order: the rows of the first part, then the range's own, then the second part's.
 // So the path of place i has row 2i, and the range of len paths from place first on has row 2 first + top_row(len).
 use kinds::Ticks;
-use lister::path_rows;
+use paths::path_rows;
 use rows::top_row;
 use table::Task;
 ghost use mathlib.Core.Path.{_≡_};
@@ -14,7 +14,7 @@ ghost use lib.Seq.{sets};
 ghost use Rattle.meaning.specs.Bounds.{largestD};
 ghost use Rattle.meaning.specs.Paths.{pathsOf};
 ghost use Rattle.table.specs.Record.{taskOf, HeldTask};
-ghost use Rattle.lister.specs.Columns.{mostCounted};
+ghost use Rattle.lister.specs.Ways.{mostCounted};
 ghost use Rattle.ranges.specs.Stretch.{largerCells, largestRow, stretchCells, singleRows, inOrder, stretchOf};
 
 fn larger(x: u32, y: u32) -> u32

@@ -10,8 +10,8 @@ use Rattle.lister.proofs.count.count_from.Reads as count-from
 use Rattle.lister.proofs.count.count_from.Kinds as count-from-kinds
 use Rattle.lister.proofs.count.+count_from.Lts-count_from as count-from-lts
 use Rattle.lister.proofs.follow.follow.Reads as follow-reads
-use Rattle.lister.proofs.numbers.index.Reads as index-reads
-use Rattle.lister.proofs.numbers.separation.Reads as separation-reads
+use Rattle.columns.proofs.numbers.index.Reads as index-reads
+use Rattle.columns.proofs.numbers.separation.Reads as separation-reads
 use Rattle.lister.proofs.count.+count_from.{statement}
 use Rattle.lister.proofs.count.+count_from.Tie.{close}
 

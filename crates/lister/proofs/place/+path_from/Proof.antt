@@ -9,8 +9,8 @@ use Rattle.lister.proofs.Places.{Seeking, here, past-one, past-some, se
 use Rattle.lister.proofs.place.path_from.Reads as path-from
 use Rattle.lister.proofs.place.path_from.Kinds as path-from-kinds
 use Rattle.lister.proofs.place.+path_from.Lts-path_from as path-from-lts
-use Rattle.lister.proofs.numbers.index.Reads as index-reads
-use Rattle.lister.proofs.numbers.separation.Reads as separation-reads
+use Rattle.columns.proofs.numbers.index.Reads as index-reads
+use Rattle.columns.proofs.numbers.separation.Reads as separation-reads
 use Rattle.lister.proofs.place.+path_from.{statement}
 use Rattle.lister.proofs.place.+path_from.Tie.{close}
 

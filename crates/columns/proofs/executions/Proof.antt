@@ -1,0 +1,70 @@
+use Prim.Native.Nat.{_-_, _≤_}
+use mathlib.Core.Path.{_≡_, refl, sym, ap, _∙_}
+use mathlib.Core.List.{map}
+use native.Mathlib.Omega.{arith}
+use lib.ListN.{take, replicate, length-map, List·getD-map}
+use lib.Seq.{sets}
+use Rattle.table.specs.Record.{noVertex}
+use Rattle.meaning.specs.Bounds.{mostVertices}
+use Rattle.columns.specs.Columns.{executionIn}
+use Rattle.meaning.proofs.Stores.{col-more}
+use Rattle.columns.proofs.executions.Statement.{statement}
+use Rattle.columns.proofs.executions.Tie as tie
+use Rattle.columns.proofs.executions.Reads as reads
+use Rattle.columns.proofs.executions.Lts as lts
+
+abbrev Inv-loop : tie.InvT-loop
+Inv-loop t e₀ v₀ e v = (v ≤ t .nv) × (e ≡ sets (replicate mostVertices 0) 0 (take v (map executionIn (t .vertices))))
+
+abbrev μ-loop : tie.MeasureT-loop
+μ-loop t e₀ v₀ e v = t .nv - v
+
+loop-holds : tie.Need-loop-holds Inv-loop μ-loop
+loop-holds c = (omega arith, refl)
+
+mul-x : tie.Need-mul-x Inv-loop μ-loop
+mul-x c = omega (arith, c .before .before .pre .few)
+
+element-copy-out-x : tie.Need-element-copy-out-x Inv-loop μ-loop
+element-copy-out-x c = omega (arith, c .before .before .pre .few)
+
+mul-e : tie.Need-mul-e Inv-loop μ-loop
+mul-e c = omega (arith, c .before .before .before .pre .few)
+
+array-write-e : tie.Need-array-write-e Inv-loop μ-loop
+array-write-e c = omega (arith, c .before .before .before .pre .few)
+
+add-v : tie.Need-add-v Inv-loop μ-loop
+add-v c = omega (arith, c .before .before .before .pre .few)
+
+loop-less : tie.Need-loop-less Inv-loop μ-loop
+loop-less c = omega arith
+
+loop-again : tie.Need-loop-again Inv-loop μ-loop
+loop-again c =
+    let s = c .before .before .before in
+    let l = c .before .before .loop in
+    (omega arith, col-more (replicate mostVertices 0) (l .e) (map executionIn (s .args .t1 .vertices)) (l .v) _ (omega (arith, length-map (s .args .t1 .vertices) executionIn, s .pre .cellsV, s .pre .few)) (l .inv .1) (sym (List·getD-map executionIn (s .args .t1 .vertices) (l .v) noVertex)))
+
+returns : tie.Need-returns Inv-loop μ-loop
+returns c =
+    let s = c .before .before in
+    let l = c .before .loop in
+    let z : l .v ≡ s .args .t1 .nv = omega arith in
+    l .inv .1 ∙ ap (λ n. sets (replicate mostVertices 0) 0 (take n (map executionIn (s .args .t1 .vertices)))) z
+
+pub executions-spec : {M : Type 1} → statement M
+executions-spec =
+    tie.close
+    (tie.spec
+    Inv-loop
+    μ-loop
+    loop-holds
+    mul-x
+    element-copy-out-x
+    mul-e
+    array-write-e
+    add-v
+    loop-less
+    loop-again
+    returns)

@@ -1,0 +1,4 @@
+pub mod PutRows
+pub mod AllRows
+pub mod FollowingRows
+pub mod RowsAreLoads
