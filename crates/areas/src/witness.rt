@@ -10,7 +10,7 @@ ghost use Rattle.meaning.specs.Bounds.{largestD};
 ghost use Rattle.meaning.specs.Table.{higher};
 ghost use Rattle.meaning.specs.Verdict.{cellsOf};
 ghost use Rattle.table.specs.Record.{tableOf, Held};
-ghost use Rattle.lister.specs.Ways.{mostCounted};
+ghost use Rattle.ways.specs.Ways.{mostCounted};
 ghost use Rattle.meaning.specs.Areas.{Wrote};
 ghost use Rattle.areas.specs.Witness.{pathCells, pathsAt};
 

@@ -19,7 +19,7 @@ use Rattle.meaning.proofs.Lists.{getD-mapped}
 use Rattle.kinds.specs.declared.Verdict.the-variants as Kinds
 use Rattle.table.specs.declared.Table.{Table}
 use Rattle.table.specs.Record.{tableOf, Held}
-use Rattle.lister.specs.Ways.{mostCounted}
+use Rattle.ways.specs.Ways.{mostCounted}
 use Rattle.walk.specs.declared.Ending.the-variants.{Meets, Misses, Unfinished}
 use Rattle.walk.specs.declared.Walked.{Walked}
 use Rattle.walk.specs.Steps.{runRows}

@@ -10,10 +10,10 @@ use lib.Seq.{sets, sets-eq, length-sets, take-at, getD-append-add}
 use Rattle.meaning.specs.Bounds.{mostVertices, largestD}
 use Rattle.lister.specs.declared.place.Sought.{Sought}
 use Rattle.columns.specs.Columns.{SoundColumns}
-use Rattle.lister.specs.Ways.{ways, allWays, onBy, verticesBy, pathBy}
+use Rattle.ways.specs.Ways.{ways, allWays, onBy, verticesBy, pathBy}
 use Rattle.lister.specs.Place.{Found}
-use Rattle.lister.proofs.Taken.{way-short}
-use Rattle.lister.proofs.Ways.{all-ways-none, all-ways-more}
+use Rattle.ways.proofs.Taken.{way-short}
+use Rattle.ways.proofs.Ways.{all-ways-none, all-ways-more}
 use Rattle.lister.proofs.Places.{getD-onBy, true-false}
 
 -- the path's vertices stand in the first n cells

@@ -6,8 +6,8 @@ use mathlib.Core.List.{List}
 use lib.ListN.{length, getD}
 use Rattle.meaning.specs.Bounds.{mostVertices}
 use Rattle.columns.specs.Columns.{SoundColumns}
-use Rattle.lister.specs.Ways.{ways}
-use Rattle.lister.proofs.Ways.{byEdges, step-no, length-yes, by-edges-none, length-ways}
+use Rattle.ways.specs.Ways.{ways}
+use Rattle.ways.proofs.Ways.{byEdges, step-no, length-yes, by-edges-none, length-ways}
 
 -- what is counted and what is still to come is all
 pub record Counting (start to p : List ℕ) (v r cap end k sum : ℕ) : Type 0 where

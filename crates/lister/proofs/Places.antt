@@ -11,10 +11,10 @@ use lib.Seq.{sets, getD-append-add}
 use Rattle.meaning.specs.Bounds.{mostVertices}
 use Rattle.lister.specs.declared.place.Sought.{Sought}
 use Rattle.columns.specs.Columns.{SoundColumns}
-use Rattle.lister.specs.Ways.{ways, onBy, orStop, verticesBy}
+use Rattle.ways.specs.Ways.{ways, onBy, orStop, verticesBy}
 use Rattle.lister.specs.Place.{Found}
 use Rattle.meaning.proofs.Stores.{set-sets}
-use Rattle.lister.proofs.Ways.{byEdges, step-no, step-yes, length-yes, by-edges-none, ways-step, orStop-some, length-zero}
+use Rattle.ways.proofs.Ways.{byEdges, step-no, step-yes, length-yes, by-edges-none, ways-step, orStop-some, length-zero}
 
 pub getD-onBy : (k : ℕ) (hs : List (List ℕ)) (i : ℕ) → i < length hs → getD (onBy k hs) i [] ≡ k ∷ getD hs i []
 getD-onBy k [] i h = absurd (omega arith)

@@ -9,7 +9,7 @@ use Rattle.meaning.specs.Bounds.{largestD}
 use Rattle.table.specs.Record.{padded, vertexNumber}
 use Rattle.lister.specs.declared.Path.{Path}
 use Rattle.lister.specs.declared.place.Sought.{Sought}
-use Rattle.lister.specs.Ways.{ways, verticesBy}
+use Rattle.ways.specs.Ways.{ways, verticesBy}
 
 -- a path in an array of zeros, with its length
 unfoldable pub pathRecord : List ℕ → Path

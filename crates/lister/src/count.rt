@@ -9,7 +9,7 @@ ghost use Prim.Native.Nat.{_≤_, _<_, min};
 ghost use lib.ListN.{length};
 ghost use Rattle.meaning.specs.Bounds.{mostVertices};
 ghost use Rattle.columns.specs.Columns.{SoundColumns};
-ghost use Rattle.lister.specs.Ways.{mostCounted, ways, allWays};
+ghost use Rattle.ways.specs.Ways.{mostCounted, ways, allWays};
 
 // How many complete paths go on from v with r ticks left, at most cap.
 fn count_from(

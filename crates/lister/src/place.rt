@@ -12,7 +12,7 @@ ghost use mathlib.Core.List.{List};
 ghost use lib.ListN.{length, take, getD};
 ghost use Rattle.meaning.specs.Bounds.{mostVertices, largestD};
 ghost use Rattle.columns.specs.Columns.{SoundColumns};
-ghost use Rattle.lister.specs.Ways.{mostCounted, allWays, pathBy};
+ghost use Rattle.ways.specs.Ways.{mostCounted, allWays, pathBy};
 ghost use Rattle.lister.specs.Place.{Found, pathRecord};
 
 // Found: n is the path's length. Not found: n of the places are still to pass.

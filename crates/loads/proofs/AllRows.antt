@@ -6,9 +6,10 @@ use mathlib.Core.List.{List, [], _∷_}
 use lib.ListN.{length, length-map}
 use Rattle.meaning.specs.Bounds.{largestD}
 use Rattle.meaning.proofs.Lists.{map-append}
-use Rattle.lister.specs.Ways.{ways, allWays, onBy}
-use Rattle.loads.specs.Rows.{runs, wayRow, wayRows, putRows, Room, rowsBehind, RowsPut}
-use Rattle.lister.proofs.Ways.{all-ways-none, all-ways-more, all-ways-length}
+use Rattle.ways.specs.Ways.{ways, allWays, onBy}
+use Rattle.loads.specs.Rows.{putRows, Room, rowsBehind, RowsPut}
+use Rattle.ways.specs.Runs.{runs, wayRow, wayRows}
+use Rattle.ways.proofs.Ways.{all-ways-none, all-ways-more, all-ways-length}
 use Rattle.loads.proofs.PutRows.{put-append, put-length, room-less}
 
 way-rows-by : (e to p : List ℕ) (d v : ℕ) (hs : List (List ℕ)) → wayRows e to p d (onBy v hs) ≡ rowsBehind e to p [] d 0 v hs

@@ -7,10 +7,10 @@ use lib.ListN.{length, getD, replicate}
 use lib.Seq.{sets, length-sets}
 use Rattle.meaning.specs.Bounds.{mostVertices, largestD}
 use Rattle.columns.specs.Columns.{SoundColumns}
-use Rattle.lister.specs.Ways.{ways}
-use Rattle.lister.specs.Follow.{loneP, Leads}
-use Rattle.lister.specs.Follow as follow
-use Rattle.lister.proofs.Following.{lone-below, ways-some, leads-within, leads-length}
+use Rattle.ways.specs.Ways.{ways}
+use Rattle.ways.specs.Follow.{loneP, Leads}
+use Rattle.ways.specs.Follow as follow
+use Rattle.ways.proofs.Following.{lone-below, ways-some, leads-within, leads-length}
 use Rattle.loads.specs.Rows.{Room, RowsPut}
 use Rattle.loads.specs.Follow.{LeadsRow, FollowedRow}
 use Rattle.loads.specs.Follow as rows

@@ -1,4 +1,3 @@
 pub mod PutRows
 pub mod AllRows
 pub mod FollowingRows
-pub mod RowsAreLoads

@@ -9,10 +9,11 @@ use lib.Seq.{sets, length-sets}
 use Rattle.meaning.specs.Bounds.{mostVertices, largestD}
 use Rattle.meaning.proofs.Lists.{map-append}
 use Rattle.columns.specs.Columns.{SoundColumns}
-use Rattle.lister.specs.Ways.{ways, onBy, orStop}
-use Rattle.loads.specs.Rows.{runs, putRows, Room, rowsBehind, RowsPut}
+use Rattle.ways.specs.Ways.{ways, onBy, orStop}
+use Rattle.loads.specs.Rows.{putRows, Room, rowsBehind, RowsPut}
+use Rattle.ways.specs.Runs.{runs}
 use Rattle.meaning.proofs.Stores.{run-take, run-keeps}
-use Rattle.lister.proofs.Ways.{byEdges, step-no, step-yes, length-yes, by-edges-none, ways-step, length-ways, orStop-some, length-zero}
+use Rattle.ways.proofs.Ways.{byEdges, step-no, step-yes, length-yes, by-edges-none, ways-step, length-ways, orStop-some, length-zero}
 
 pub put-append : (xs ys : List (List ℕ)) (d n : ℕ) (P : List ℕ) → putRows d n (xs ++ ys) P ≡ putRows d (n + length xs) ys (putRows d n xs P)
 unfolding putRows

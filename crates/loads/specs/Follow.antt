@@ -4,7 +4,7 @@ use Prim.Native.Nat.{ℕ, _+_, _-_, _*_, _≤_, _<_}
 use mathlib.Core.List.{List}
 use lib.ListN.{getD, replicate}
 use lib.Seq.{sets}
-use Rattle.lister.specs.Follow.{Lone, loneTo, loneP}
+use Rattle.ways.specs.Follow.{Lone, loneTo, loneP}
 
 -- lone edges lead from v at span, with the total e below, where the row becomes R: the total stands from a release to the next
 pub data LeadsRow (e start to p : List ℕ) (d v span below : ℕ) (row : List ℕ) : ℕ → ℕ → ℕ → List ℕ → Type 0 where

@@ -2,34 +2,15 @@
 use mathlib.Core.Path.{_≡_}
 use Prim.Native.Nat.{ℕ, _+_, _-_, _*_, _≤_}
 use mathlib.Core.List.{List, [], _∷_, _++_, map}
-use lib.ListN.{length, getD, take, replicate}
+use lib.ListN.{length, take}
 use lib.Seq.{sets}
-use Rattle.meaning.specs.Lists.{ticks}
 use Rattle.meaning.specs.Bounds.{largestD}
-use Rattle.meaning.specs.Table.{Task}
-use Rattle.meaning.specs.Paths.{Path, load}
-use Rattle.lister.specs.Ways.{mostCounted, ways}
+use Rattle.ways.specs.Ways.{mostCounted, ways}
+use Rattle.ways.specs.Runs.{runs}
 
--- a path's loads at 1 to d
-abbrev pub loadRow : Task → ℕ → Path → List ℕ
-loadRow k d w = map (load k w) (ticks d)
-
--- the loads that begin with v, where `room` ticks are left and the prefix has `below`: the total stands from a release to the next
-module _ (e to p : List ℕ) where
-  abbrev pub runs : ℕ → ℕ → ℕ → List ℕ → List ℕ
-  runs room below v [] = replicate room (below + getD e v 0)
-  runs room below v (k ∷ h) = replicate (getD p k 0) (below + getD e v 0) ++ runs (room - getD p k 0) (below + getD e v 0) (getD to k 0) h
-
-  abbrev pub wayRow : ℕ → List ℕ → List ℕ
-  wayRow d [] = []
-  wayRow d (v ∷ h) = runs d 0 v h
-
-  unfoldable pub wayRows : ℕ → List (List ℕ) → List (List ℕ)
-  wayRows d hs = map (wayRow d) hs
-
-  -- the rows of the ways on from v, behind the prefix's loads
-  unfoldable pub rowsBehind : List ℕ → ℕ → ℕ → ℕ → List (List ℕ) → List (List ℕ)
-  rowsBehind row room below v hs = map (λ (h : List ℕ). row ++ runs room below v h) hs
+-- the rows of the ways on from v, behind the prefix's loads
+unfoldable pub rowsBehind : List ℕ → List ℕ → List ℕ → List ℕ → ℕ → ℕ → ℕ → List (List ℕ) → List (List ℕ)
+rowsBehind e to p row room below v hs = map (λ (h : List ℕ). row ++ runs e to p room below v h) hs
 
 -- the rows xs go to the rows 2i, 2(i + 1), .. of d cells
 unfoldable pub putRows : ℕ → ℕ → List (List ℕ) → List ℕ → List ℕ

@@ -19,8 +19,9 @@ ghost use Prim.Native.Nat.{_+_, _-_, _*_, _≤_, _<_};
 ghost use lib.ListN.{length};
 ghost use Rattle.meaning.specs.Bounds.{mostVertices, largestD};
 ghost use Rattle.columns.specs.Columns.{SoundColumns};
-ghost use Rattle.lister.specs.Ways.{ways, allWays};
-ghost use Rattle.loads.specs.Rows.{Room, RowsPut, putRows, wayRows};
+ghost use Rattle.ways.specs.Ways.{ways, allWays};
+ghost use Rattle.loads.specs.Rows.{Room, RowsPut, putRows};
+ghost use Rattle.ways.specs.Runs.{wayRows};
 
 // The rows of all complete paths that go on from v at span, of which the first has place i. The row holds the loads up to span, and below is the
 // total e up to there, without v. Gives the next place.

@@ -11,11 +11,12 @@ use Rattle.table.specs.declared.Task.{Task}
 use Rattle.table.specs.Record.{taskOf, HeldTask}
 use Rattle.columns.specs.Columns.{ColumnsOf}
 use Rattle.lister.specs.declared.Path.{Path}
-use Rattle.lister.specs.Ways.{allWays, pathBy}
+use Rattle.ways.specs.Ways.{allWays, pathBy}
 use Rattle.lister.specs.Place.{pathRecord}
-use Rattle.lister.proofs.PathsAreWays.{count-of-ways, place-of-ways}
-use Rattle.loads.specs.Rows.{loadRow, wayRows, putRows, Room}
-use Rattle.loads.proofs.RowsAreLoads.{loads-are-rows}
+use Rattle.ways.proofs.PathsAreWays.{count-of-ways, place-of-ways}
+use Rattle.loads.specs.Rows.{putRows, Room}
+use Rattle.ways.specs.Runs.{loadRow, wayRows}
+use Rattle.ways.proofs.RowsAreLoads.{loads-are-rows}
 
 -- the paths that the walk chooses from are the complete ones
 paths-are-complete : (k : Meant.Task) (d : ℕ) → completePaths k d ≡ pathsOf k d

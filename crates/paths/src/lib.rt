@@ -17,9 +17,10 @@ ghost use lib.ListN.{length, getD};
 ghost use Rattle.meaning.specs.Bounds.{largestD};
 ghost use Rattle.meaning.specs.Paths.{pathsOf};
 ghost use Rattle.table.specs.Record.{taskOf, HeldTask};
-ghost use Rattle.lister.specs.Ways.{mostCounted};
+ghost use Rattle.ways.specs.Ways.{mostCounted};
 ghost use Rattle.lister.specs.Place.{pathRecord};
-ghost use Rattle.loads.specs.Rows.{Room, putRows, loadRow};
+ghost use Rattle.loads.specs.Rows.{Room, putRows};
+ghost use Rattle.ways.specs.Runs.{loadRow};
 
 // How many complete paths a task has for horizon d, exactly up to the cap, and the cap above.
 pub fn path_count(t: Task, d: Ticks, cap: usize) -> usize

@@ -12,8 +12,9 @@ use Rattle.meaning.specs.Lists.{countFrom, ticks}
 use Rattle.meaning.specs.Table.{Task}
 use Rattle.meaning.specs.Paths.{load, pathsOf}
 use Rattle.meaning.specs.Groups.{half, firstPart, secondPart, rangeLoad}
-use Rattle.lister.specs.Ways.{mostCounted}
-use Rattle.loads.specs.Rows.{Room, putRows, loadRow}
+use Rattle.ways.specs.Ways.{mostCounted}
+use Rattle.loads.specs.Rows.{Room, putRows}
+use Rattle.ways.specs.Runs.{loadRow}
 use Rattle.meaning.proofs.Lists.{length-countFrom}
 use Rattle.meaning.proofs.Stores.{sets-drop, sets-take}
 use Rattle.ranges.specs.Stretch.{largerCells, largestRow, stretchCells, singleRows, inside, inOrder, rangeRow, stretchOf}

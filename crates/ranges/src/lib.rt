@@ -14,7 +14,7 @@ ghost use lib.Seq.{sets};
 ghost use Rattle.meaning.specs.Bounds.{largestD};
 ghost use Rattle.meaning.specs.Paths.{pathsOf};
 ghost use Rattle.table.specs.Record.{taskOf, HeldTask};
-ghost use Rattle.lister.specs.Ways.{mostCounted};
+ghost use Rattle.ways.specs.Ways.{mostCounted};
 ghost use Rattle.ranges.specs.Stretch.{largerCells, largestRow, stretchCells, singleRows, inOrder, stretchOf};
 
 fn larger(x: u32, y: u32) -> u32

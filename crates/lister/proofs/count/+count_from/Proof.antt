@@ -3,7 +3,7 @@ use Prim.Native.Nat.{_-_, min, ℕ, _<_}
 use native.Mathlib.Omega.{arith}
 use borrow.Author.Needs.{needs}
 use Rattle.lister.proofs.CountLoop.{Counting, counting-none, counting-skip, counting-on, counting-full, counted-none, counted-some}
-use Rattle.lister.proofs.Following.{leads-within, leads-length}
+use Rattle.ways.proofs.Following.{leads-within, leads-length}
 use borrow.Fn.Kinds.{In}
 use borrow.Fn.PlainCycle.{Measures, is, falls, and}
 use Rattle.lister.proofs.count.count_from.Reads as count-from

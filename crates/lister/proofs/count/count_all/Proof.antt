@@ -2,8 +2,8 @@ use Prim.Native.Nat.{_+_, _-_, _≤_, _<_}
 use mathlib.Core.Path.{_≡_, ap}
 use native.Mathlib.Omega.{arith}
 use lib.ListN.{length}
-use Rattle.lister.specs.Ways.{allWays}
-use Rattle.lister.proofs.Ways.{all-ways-length, all-ways-none}
+use Rattle.ways.specs.Ways.{allWays}
+use Rattle.ways.proofs.Ways.{all-ways-length, all-ways-none}
 use Rattle.lister.proofs.count.count_all.Statement.{statement}
 use Rattle.lister.proofs.count.count_all.Tie as tie
 use Rattle.lister.proofs.count.count_all.Reads as reads

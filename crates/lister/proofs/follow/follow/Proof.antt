@@ -1,8 +1,8 @@
 use mathlib.Core.Path.{refl}
 use native.Mathlib.Omega.{arith}
 use borrow.Author.Needs.{needs}
-use Rattle.lister.specs.Follow.{Leads, here}
-use Rattle.lister.proofs.Following.{leads-on, ends-choice, ends-room, lone-below, leads-within}
+use Rattle.ways.specs.Follow.{Leads, here}
+use Rattle.ways.proofs.Following.{leads-on, ends-choice, ends-room, lone-below, leads-within}
 use Rattle.lister.proofs.follow.follow.Statement.{statement}
 use Rattle.lister.proofs.follow.follow.Tie as tie
 

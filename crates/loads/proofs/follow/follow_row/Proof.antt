@@ -3,7 +3,7 @@ use Prim.Native.Nat.{_-_, _*_, _≤_}
 use native.Mathlib.Omega.{arith}
 use borrow.Author.Needs.{needs}
 use Rattle.loads.specs.Follow.{LeadsRow, here}
-use Rattle.lister.proofs.Following.{lone-below}
+use Rattle.ways.proofs.Following.{lone-below}
 use Rattle.loads.proofs.FollowingRows.{row-on, row-choice, row-room, row-within}
 use Rattle.loads.proofs.follow.follow_row.Statement.{statement}
 use Rattle.loads.proofs.follow.follow_row.Tie as tie

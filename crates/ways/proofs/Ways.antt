@@ -11,7 +11,7 @@ use lib.Dec.{ltb}
 use Rattle.meaning.specs.Lists.{pick, gather, countFrom}
 use Rattle.meaning.specs.Bounds.{mostVertices}
 use Rattle.columns.specs.Columns.{SoundColumns}
-use Rattle.lister.specs.Ways.{orStop, onBy, waysFrom, ways, allWays}
+use Rattle.ways.specs.Ways.{orStop, onBy, waysFrom, ways, allWays}
 
 module _ (start to p : List ℕ) where
   -- the ways on by the edge k

@@ -14,11 +14,11 @@ use Rattle.meaning.proofs.Loads.{ifRoom, runOn, load-run}
 use Rattle.meaning.proofs.Suffice.{run-zero}
 use Rattle.meaning.proofs.Edges.{separation-is}
 use Rattle.columns.specs.Columns.{ColumnsOf, edgeAt}
-use Rattle.lister.specs.Ways.{onBy, waysFrom, ways, allWays, verticesBy, pathBy}
-use Rattle.loads.specs.Rows.{loadRow, runs, wayRow, wayRows}
-use Rattle.lister.proofs.Ways.{edge-below}
-use Rattle.lister.proofs.Taken.{Taken, way-taken}
-use Rattle.lister.proofs.PathsAreWays.{tos, paths-are-ways}
+use Rattle.ways.specs.Ways.{onBy, waysFrom, ways, allWays, verticesBy, pathBy}
+use Rattle.ways.specs.Runs.{loadRow, runs, wayRow, wayRows}
+use Rattle.ways.proofs.Ways.{edge-below}
+use Rattle.ways.proofs.Taken.{Taken, way-taken}
+use Rattle.ways.proofs.PathsAreWays.{tos, paths-are-ways}
 
 map-mem : {A B : Type 0} (f g : A → B) (xs : List A) → ((x : A) → List·Memᴰ x xs → f x ≡ g x) → map f xs ≡ map g xs
 map-mem f g [] h = refl

@@ -12,8 +12,8 @@ use Rattle.meaning.specs.Lists.{pick, gather}
 use Rattle.meaning.specs.Bounds.{mostVertices}
 use Rattle.meaning.proofs.Lists.{mem-getD, gather-mem, countFrom-mem}
 use Rattle.columns.specs.Columns.{SoundColumns, edgesOf}
-use Rattle.lister.specs.Ways.{orStop, onBy, waysFrom, ways}
-use Rattle.lister.proofs.Ways.{edge-below}
+use Rattle.ways.specs.Ways.{orStop, onBy, waysFrom, ways}
+use Rattle.ways.proofs.Ways.{edge-below}
 
 none-cases : (hs : List (List ℕ)) {h : List ℕ} → List·Memᴰ h (orStop hs) → (h ≡ []) ⊎ List·Memᴰ h hs
 none-cases [] (List·Memᴰ·head q) = inl q

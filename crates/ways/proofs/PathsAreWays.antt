@@ -12,8 +12,8 @@ use Rattle.meaning.specs.Table.{Edge, Task}
 use Rattle.meaning.specs.Paths.{orAlone, pathsFrom, completePaths}
 use Rattle.meaning.proofs.Lists.{map-append}
 use Rattle.columns.specs.Columns.{ColumnsOf, edgeAt, edgesOf}
-use Rattle.lister.specs.Ways.{orStop, onBy, waysFrom, ways, allWays, verticesBy, pathBy}
-use Rattle.lister.proofs.Ways.{edge-below}
+use Rattle.ways.specs.Ways.{orStop, onBy, waysFrom, ways, allWays, verticesBy, pathBy}
+use Rattle.ways.proofs.Ways.{edge-below}
 
 abbrev pub tos : List ℕ → List ℕ → List ℕ
 tos to h = map (λ (j : ℕ). getD to j 0) h

@@ -6,10 +6,10 @@ use mathlib.Core.List.{List}
 use lib.ListN.{length, getD}
 use Rattle.meaning.specs.Bounds.{mostVertices}
 use Rattle.columns.specs.Columns.{SoundColumns}
-use Rattle.lister.specs.Ways.{ways}
-use Rattle.lister.specs.Follow.{Lone, loneTo, loneP, Leads, Followed}
-use Rattle.lister.specs.Follow as follow
-use Rattle.lister.proofs.Ways.{length-yes, by-edges-none, length-ways}
+use Rattle.ways.specs.Ways.{ways}
+use Rattle.ways.specs.Follow.{Lone, loneTo, loneP, Leads, Followed}
+use Rattle.ways.specs.Follow as follow
+use Rattle.ways.proofs.Ways.{length-yes, by-edges-none, length-ways}
 
 -- ---- the loop of `follow`
 

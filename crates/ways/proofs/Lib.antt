@@ -1,0 +1,5 @@
+pub mod Ways
+pub mod Taken
+pub mod Following
+pub mod PathsAreWays
+pub mod RowsAreLoads
