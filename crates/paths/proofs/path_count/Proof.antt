@@ -1,3 +1,4 @@
+use native.Mathlib.Omega.{arith}
 use borrow.Author.Needs.{needs}
 use Rattle.paths.proofs.Listing.{few, counted}
 use Rattle.paths.proofs.path_count.Statement.{statement}
@@ -15,7 +16,7 @@ count-all-requires c κs =
     let held = at-columns .before .pre .0 in
     let asked = at-columns .before .pre .1 in
     let says = at-columns .columns-of .ensures in
-    (says .sound, (few held says, asked .0, asked .1, asked .2))
+    (says .sound, (omega (arith, few held says), asked .0, asked .1, asked .2))
 
 returns : tie.Need-returns
 returns c =
