@@ -34,6 +34,10 @@ pub record Ready (t : Task) : Type 0 where
 
 -- ---- its columns
 
+-- the largest number of 16 bits, and so in the columns
+abbrev pub widest : ℕ
+widest = 65535
+
 -- the edges out of v are those from start v up to start (v + 1)
 abbrev pub edgesOf : List ℕ → ℕ → List ℕ
 edgesOf start v = countFrom (getD start v 0) (getD start (v + 1) 0 - getD start v 0)

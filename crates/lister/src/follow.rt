@@ -6,7 +6,7 @@ use columns::numbers::separation;
 ghost use Prim.Native.Nat.{_<_};
 ghost use Rattle.meaning.specs.Bounds.{mostVertices};
 ghost use Rattle.columns.specs.Columns.{SoundColumns};
-ghost use Rattle.ways.specs.Follow.{Followed};
+ghost use Rattle.lister.specs.Follow.{Followed};
 
 // A vertex, and the ticks left there.
 pub(crate) struct Reached {

@@ -1,69 +1,58 @@
 -- Rows along lone edges: those put from where they lead are those put from where they start. Assumes nothing.
-use mathlib.Core.Path.{_≡_, refl, sym, ap, subst, _∙_}
+use mathlib.Core.Path.{_≡_, refl, ap, ap₂, subst, _∙_}
 use Prim.Native.Nat.{ℕ, _+_, _-_, _*_, _≤_, _<_}
 use native.Mathlib.Omega.{arith}
 use mathlib.Core.List.{List}
-use lib.ListN.{length, getD, replicate}
-use lib.Seq.{sets, length-sets}
+use lib.ListN.{length, getD}
 use Rattle.meaning.specs.Bounds.{mostVertices, largestD}
-use Rattle.columns.specs.Columns.{SoundColumns}
+use Rattle.columns.specs.Columns.{widest, SoundColumns}
 use Rattle.ways.specs.Ways.{ways}
-use Rattle.ways.specs.Follow.{loneP, Leads}
-use Rattle.ways.specs.Follow as follow
-use Rattle.ways.proofs.Following.{lone-below, ways-some, leads-within, leads-length}
-use Rattle.loads.specs.Rows.{Room, RowsPut}
-use Rattle.loads.specs.Follow.{LeadsRow, FollowedRow}
-use Rattle.loads.specs.Follow as rows
-use Rattle.loads.proofs.PutRows.{going-none, going-on, put-some}
+use Rattle.ways.proofs.Turns.{Turn, edge-on, ways-some, lone-length}
+use Rattle.loads.specs.Rows.{Run, RowsPut}
+use Rattle.loads.specs.Follow.{FollowedRow}
+use Rattle.loads.proofs.PutRows.{going-none, going-on, put-some, run-length}
 
 -- ---- the loop of `follow_row`
 
-module _ {e start to p : List ℕ} {d v span below : ℕ} {row : List ℕ} {u s b k : ℕ} {R : List ℕ} (x : LeadsRow e start to p d v span below row u s b R) (ek : k ≡ getD start u 0) where
-  pub row-on : (j q u' t : ℕ) (R' : List ℕ) → j ≡ getD start (u + 1) 0 → j ≡ k + 1 → q ≡ getD p k 0 → s + q < d → u' ≡ getD to k 0 → t ≡ getD e u 0
-      → R' ≡ sets R s (replicate (s + q - s) (b + t)) → LeadsRow e start to p d v span below row u' (s + q) (b + t) R'
-  row-on j q u' t R' ej one eq room eu et eR =
-      let f : q ≡ loneP start p u = eq ∙ ap (λ (i : ℕ). getD p i 0) ek in
-      rows.on {s' = s + q} {b' = b + t} x (omega arith) (omega arith) (eu ∙ ap (λ (i : ℕ). getD to i 0) ek) (omega arith) (omega arith) eR
+pub led-none : (e start to p : List ℕ) (d v span below : ℕ) (row : List ℕ) → v < mostVertices → span < d → below ≤ widest * span → length row ≡ largestD
+    → FollowedRow e start to p d v span below row v span below row
+led-none e start to p d v span below row hv hs light l =
+    record { vertex = hv; onward = omega arith; room = hs; light = light; cells = l; same = refl; put = λ i r P Q qrow f. f }
 
-  pub row-choice : b ≤ 65535 * s → (j : ℕ) → j ≡ getD start (u + 1) 0 → (j ≡ k + 1 → ⊥) → FollowedRow e start to p d v span below row u s b R
-  row-choice light j ej more = record { leads = x; ends = λ o q. more (omega arith); light = light }
+module _ {e start to p : List ℕ} (so : SoundColumns start to p) {d v span below : ℕ} {row : List ℕ} {u s b j k : ℕ} {R : List ℕ}
+    (f : FollowedRow e start to p d v span below row u s b R) (g : Turn start u j k) (ek : k ≡ getD start u 0) (one : j ≡ k + 1) (hd : d ≤ largestD)
+    (q u' t : ℕ) (eq : q ≡ getD p k 0) (eu : u' ≡ getD to k 0) (et : t ≡ getD e u 0) (ht : t ≤ widest) (room : s + q < d)
+    (R' : List ℕ) (eR : Run R s (s + q) (b + t) R') where
+  put-on : (i r : ℕ) (P Q qrow : List ℕ) → RowsPut e start to p d u' (s + q) (b + t) i P R' Q qrow r → RowsPut e start to p d v span below i P row Q qrow r
+  put-on i r P Q qrow x =
+      let w = edge-on so g (omega arith) in
+      let n = going-none {e = e} so d u s b i j k P R (f .vertex) (f .room) (f .cells) (g .ends) ek in
+      let o = going-on n u' q (b + t) eu eq (ap (λ (m : ℕ). b + m) et) (omega arith) room hd R' eR Q qrow r x in
+      let y = ways-some so u' (d - (s + q)) (omega arith) (omega arith) in
+      f .put i r P Q qrow (put-some o so (omega arith) (λ h. omega (arith, x .next)))
 
-  pub row-room : b ≤ 65535 * s → (q : ℕ) → q ≡ getD p k 0 → d ≤ s + q → FollowedRow e start to p d v span below row u s b R
-  row-room light q eq full = let f : q ≡ loneP start p u = eq ∙ ap (λ (i : ℕ). getD p i 0) ek in record { leads = x; ends = λ o l. omega arith; light = light }
+  pub led-on : FollowedRow e start to p d v span below row u' (s + q) (b + t) R'
+  led-on =
+      let w = edge-on so g (omega arith) in
+      let a = f .onward in
+      let l = f .light in
+      let z : d - (s + q) ≡ d - s - getD p k 0 = omega arith in
+      let h = f .room in
+      record {
+        vertex = omega arith;
+        onward = omega arith;
+        room = room;
+        light = omega arith;
+        cells = run-length eR (f .cells);
+        same = ap₂ (λ (x y : ℕ). length (ways start to p x y)) eu z ∙ lone-length so u (d - s) j k g (omega arith) ek one (omega arith) ∙ f .same;
+        put = put-on;
+      }
 
--- ---- where they lead
+-- ---- the end of `rows_from`, whose total is with u's own e
 
-module _ {start to p : List ℕ} (so : SoundColumns start to p) {e : List ℕ} {d v span below : ℕ} {row : List ℕ} (hv : v < mostVertices) (hs : span < d) (hd : d ≤ largestD) (hl : length row ≡ largestD) where
-  pub row-leads : {u s b : ℕ} {R : List ℕ} → LeadsRow e start to p d v span below row u s b R → Leads start to p v (d - span) u (d - s)
-  row-leads (rows.here a b c q) = follow.here a (ap (λ (n : ℕ). d - n) b)
-  row-leads (rows.on {u} {s} {b} {u'} {s'} x o q a t c r) = follow.on {s' = d - s'} (row-leads x) o (omega arith) a (omega arith)
-
-  pub row-within : {u s b : ℕ} {R : List ℕ} → LeadsRow e start to p d v span below row u s b R → (u < mostVertices) × (s < d) × (span ≤ s)
-  row-within x = let w = leads-within so hv (omega arith) (row-leads x) in let z = w .some in let y = w .fewer in (w .vertex, omega arith, omega arith)
-
-  pub row-length : {u s b : ℕ} {R : List ℕ} → LeadsRow e start to p d v span below row u s b R → length R ≡ largestD
-  row-length (rows.here a b c q) = ap length q ∙ hl
-  row-length (rows.on {u} {s} {b} {u'} {s'} {b'} {R} x o q a t c r) = ap length r ∙ length-sets R s (replicate (s' - s) b') ∙ row-length x
-
-  -- the rows put from where they lead are those put from v
-  pub leads-put : {u s b : ℕ} {R : List ℕ} → LeadsRow e start to p d v span below row u s b R → {i r : ℕ} {P Q qrow : List ℕ}
-      → RowsPut e start to p d u s b i P R Q qrow r → RowsPut e start to p d v span below i P row Q qrow r
-  leads-put {u} {s} {b} {R} (rows.here x y z q) {i} {r} {P} {Q} {qrow} f =
-      subst (λ (n : ℕ). RowsPut e start to p d n span below i P row Q qrow r) x (subst (λ (n : ℕ). RowsPut e start to p d u n below i P row Q qrow r) y
-      (subst (λ (n : ℕ). RowsPut e start to p d u s n i P row Q qrow r) z (subst (λ (w : List ℕ). RowsPut e start to p d u s b i P w Q qrow r) q f)))
-  leads-put (rows.on {u} {s} {b} {u'} {s'} {b'} {R} {R'} x o q a t c w) {i} {r} {P} {Q} {qrow} f =
-      let n = row-within x in
-      let k = getD start u 0 in
-      let z : s' - s ≡ s + loneP start p u - s = omega arith in
-      let g = going-none e start to p d u s b i (getD start (u + 1) 0) k P R refl (omega arith) (row-length x) in
-      let j = going-on g u' (loneP start p u) b' a refl c (omega arith) q hd R' (w ∙ ap (λ (m : ℕ). sets R s (replicate m b')) z) Q qrow r (subst (λ (m : ℕ). RowsPut e start to p d u' m b' i P R' Q qrow r) t f) in
-      let y = ways-some so u' (d - s') (subst (λ (m : ℕ). m < mostVertices) (sym a) (so .within k (lone-below so u (n .0) o))) (omega arith) in
-      leads-put x (put-some j so (n .0) (n .1) refl (omega arith) (λ h. omega (arith, f .next)))
-
-  pub put-led : {u s b b' : ℕ} {R : List ℕ} → LeadsRow e start to p d v span below row u s b R → b' ≡ b → {i r : ℕ} {P Q qrow : List ℕ}
-      → RowsPut e start to p d u s b' i P R Q qrow r → RowsPut e start to p d v span below i P row Q qrow r
-  put-led {u} {s} {b} {b'} {R} x q {i} {r} {P} {Q} {qrow} f = leads-put x (subst (λ (n : ℕ). RowsPut e start to p d u s n i P R Q qrow r) q f)
-
-  pub room-led : {u s b : ℕ} {R : List ℕ} → LeadsRow e start to p d v span below row u s b R → (i len : ℕ)
-      → Room d (i + length (ways start to p v (d - span))) len → Room d (i + length (ways start to p u (d - s))) len
-  room-led x i len = subst (λ (n : ℕ). Room d (i + n) len) (leads-length so hv (omega arith) (row-leads x))
+pub put-led : {e start to p : List ℕ} {d v span below : ℕ} {row : List ℕ} {u s b : ℕ} {R : List ℕ} → FollowedRow e start to p d v span below row u s b R
+    → {x : ℕ} → x ≡ getD e u 0 → {i r : ℕ} {P Q qrow : List ℕ}
+    → RowsPut e start to p d u s (b + x - getD e u 0) i P R Q qrow r → RowsPut e start to p d v span below i P row Q qrow r
+put-led {e} {start} {to} {p} {d} {u = u} {s} {b} {R} f {x} ex {i} {r} {P} {Q} {qrow} a =
+    let z : b + x - getD e u 0 ≡ b = omega arith in
+    f .put i r P Q qrow (subst (λ (n : ℕ). RowsPut e start to p d u s n i P R Q qrow r) z a)

@@ -2,11 +2,15 @@
 use mathlib.Core.Path.{_≡_}
 use Prim.Native.Nat.{ℕ, _+_, _-_, _*_, _≤_}
 use mathlib.Core.List.{List, [], _∷_, _++_, map}
-use lib.ListN.{length, take}
+use lib.ListN.{length, take, replicate}
 use lib.Seq.{sets}
 use Rattle.meaning.specs.Bounds.{largestD}
 use Rattle.ways.specs.Ways.{mostCounted, ways}
 use Rattle.ways.specs.Runs.{runs}
+
+-- the cells of a row from a up to b have become x
+pub record Run (row : List ℕ) (a b x : ℕ) (after : List ℕ) : Type 0 where
+  pub cells : after ≡ sets row a (replicate (b - a) x)
 
 -- the rows of the ways on from v, behind the prefix's loads
 unfoldable pub rowsBehind : List ℕ → List ℕ → List ℕ → List ℕ → ℕ → ℕ → ℕ → List (List ℕ) → List (List ℕ)

@@ -10,7 +10,7 @@ ghost use Prim.Native.Nat.{_*_, _≤_, _<_};
 ghost use mathlib.Core.Path.{_≡_};
 ghost use lib.ListN.{length};
 ghost use Rattle.meaning.specs.Bounds.{mostVertices, largestD};
-ghost use Rattle.columns.specs.Columns.{SoundColumns};
+ghost use Rattle.columns.specs.Columns.{widest, SoundColumns};
 ghost use Rattle.loads.specs.Follow.{FollowedRow};
 
 // A vertex, the span up to it, and the total e up to there, without its own.
@@ -33,7 +33,7 @@ pub(crate) fn follow_row(
     below: u32,
 ) -> Begun
     requires { ⌜ SoundColumns (now start) (now to) (now p) ⌝ }
-    requires { ⌜ (v < mostVertices) × (span < d) × (d ≤ largestD) × (below ≤ 65535 * span) × (length (now row) ≡ largestD) ⌝ }
+    requires { ⌜ (v < mostVertices) × (span < d) × (d ≤ largestD) × (below ≤ widest * span) × (length (now row) ≡ largestD) ⌝ }
     ensures { λ s. ⌜ FollowedRow (now (e .entry)) (now (start .entry)) (now (to .entry)) (now (p .entry)) d v span below (now (row .entry)) (s .v) (s .span) (s .below) (now (row .exit)) ⌝ }
 {
     let mut u = v;

@@ -18,7 +18,7 @@ ghost use mathlib.Core.Path.{_≡_};
 ghost use Prim.Native.Nat.{_+_, _-_, _*_, _≤_, _<_};
 ghost use lib.ListN.{length};
 ghost use Rattle.meaning.specs.Bounds.{mostVertices, largestD};
-ghost use Rattle.columns.specs.Columns.{SoundColumns};
+ghost use Rattle.columns.specs.Columns.{widest, SoundColumns};
 ghost use Rattle.ways.specs.Ways.{ways, allWays};
 ghost use Rattle.loads.specs.Rows.{Room, RowsPut, putRows};
 ghost use Rattle.ways.specs.Runs.{wayRows};
@@ -39,7 +39,7 @@ fn rows_from(
     i: usize,
 ) -> usize
     requires { ⌜ SoundColumns (now start) (now to) (now p) ⌝ }
-    requires { ⌜ (v < mostVertices) × (span < d) × (d ≤ largestD) × (below ≤ 65535 * span) × (length (now row) ≡ largestD) ⌝ }
+    requires { ⌜ (v < mostVertices) × (span < d) × (d ≤ largestD) × (below ≤ widest * span) × (length (now row) ≡ largestD) ⌝ }
     requires { ⌜ Room d (i + length (ways (now start) (now to) (now p) v (d - span))) (length (now part)) ⌝ }
     ensures { λ r. ⌜ RowsPut (now (e .entry)) (now (start .entry)) (now (to .entry)) (now (p .entry)) d v span below i (now (part .entry)) (now (row .entry)) (now (part .exit)) (now (row .exit)) r ⌝ }
 {

@@ -1,15 +1,16 @@
 // Cells of a row, and a row's cells in a stretch.
 use bounds::LARGEST_D;
 ghost use mathlib.Core.Path.{_≡_};
-ghost use Prim.Native.Nat.{_+_, _-_, _≤_};
-ghost use lib.ListN.{length, take, replicate};
+ghost use Prim.Native.Nat.{_+_, _≤_};
+ghost use lib.ListN.{length, take};
 ghost use lib.Seq.{sets};
 ghost use Rattle.meaning.specs.Bounds.{largestD};
+ghost use Rattle.loads.specs.Rows.{Run};
 
 // The cells from a up to b become x.
 pub(crate) fn fill_run(row: &mut [u32; LARGEST_D], a: usize, b: usize, x: u32)
     requires { ⌜ (a ≤ b) × (b ≤ largestD) ⌝ }
-    ensures { λ _. ⌜ now (row .exit) ≡ sets (now (row .entry)) a (replicate (b - a) x) ⌝ }
+    ensures { λ _. ⌜ Run (now (row .entry)) a b x (now (row .exit)) ⌝ }
 {
     let mut i = a;
     while i < b {

@@ -39,7 +39,7 @@ returns : tie.Need-returns Inv-loop μ-loop
 returns c =
     let s = c .before .before in
     let z : c .before .loop .i ≡ s .args .b = omega arith in
-    c .before .loop .inv .2 ∙ ap (λ n. sets (s .args .row .now) (s .args .a) (replicate (n - s .args .a) (s .args .x))) z
+    record { cells = c .before .loop .inv .2 ∙ ap (λ n. sets (s .args .row .now) (s .args .a) (replicate (n - s .args .a) (s .args .x))) z }
 
 pub fill-run-spec : {M : Type 1} → statement M
 fill-run-spec =
