@@ -32,7 +32,10 @@ pub cutting-none : (from : List ℕ) (m : ℕ) → Cutting from m (replicate (mo
 cutting-none from m = record {
   high = omega arith;
   last = refl;
-  cuts = λ u h. subst (λ (w : ℕ). Cut from m (getD (replicate {A = ℕ} (mostVertices + 1) 0) w 0) w) (let z : 0 ≡ u = omega arith in z) (record { high = omega arith; below = λ j l. absurd (omega arith); above = λ j a b. omega arith });
+  cuts = λ u h.
+      let z : 0 ≡ u = omega arith in
+      subst (λ (w : ℕ). Cut from m (getD (replicate {A = ℕ} (mostVertices + 1) 0) w 0) w) z
+      (record { high = omega arith; below = λ j l. absurd (omega arith); above = λ j a b. omega arith });
   cells = length-replicate {A = ℕ} (mostVertices + 1) 0;
 }
 

@@ -1,5 +1,5 @@
 use Prim.Native.Nat.{_-_, _≤_}
-use mathlib.Core.Path.{refl}
+use mathlib.Core.Path.{_≡_, refl}
 use native.Mathlib.Omega.{arith}
 use Rattle.columns.proofs.TaskColumns.{Front, column-sorted, columns-say, fromIn, front-all, front-more, pIn, toIn}
 use Rattle.columns.proofs.Readiness.{ready}
@@ -48,7 +48,9 @@ loop-again c =
     let s = c .before .before .before in
     let l = c .before .before .loop in
     let h = c .before .loop-test .taken in
-    (omega arith, front-more (s .args .t1) (ready _ (s .pre)) fromIn (l .from) (l .k) refl h (l .inv .1), front-more (s .args .t1) (ready _ (s .pre)) toIn (l .to) (l .k) refl h (l .inv .2), front-more (s .args .t1) (ready _ (s .pre)) pIn (l .p) (l .k) refl h (l .inv .3))
+    let t = s .args .t1 in
+    let r = ready t (s .pre) in
+    (omega arith, front-more t r fromIn (l .from) (l .k) refl h (l .inv .1), front-more t r toIn (l .to) (l .k) refl h (l .inv .2), front-more t r pIn (l .p) (l .k) refl h (l .inv .3))
 
 edge-starts-requires : tie.Need-edge-starts-requires Inv-loop μ-loop
 edge-starts-requires c κs =
@@ -63,7 +65,11 @@ returns : tie.Need-returns Inv-loop μ-loop
 returns c =
     let s = c .before .before .before .before .before in
     let l = c .before .before .before .before .loop in
-    columns-say (s .args .t1) (ready _ (s .pre)) (l .from) (c .before .edge-starts .result) (l .to) (l .p) (c .executions .result) (front-all (s .args .t1) fromIn (l .from) (l .k) (omega arith) (l .inv .1)) (front-all (s .args .t1) toIn (l .to) (l .k) (omega arith) (l .inv .2)) (front-all (s .args .t1) pIn (l .p) (l .k) (omega arith) (l .inv .3)) (c .executions .ensures) (c .before .edge-starts .ensures)
+    let t = s .args .t1 in
+    let all : l .k ≡ t .ne = omega arith in
+    columns-say t (ready t (s .pre)) (l .from) (c .before .edge-starts .result) (l .to) (l .p) (c .executions .result)
+    (front-all t fromIn (l .from) (l .k) all (l .inv .1)) (front-all t toIn (l .to) (l .k) all (l .inv .2)) (front-all t pIn (l .p) (l .k) all (l .inv .3))
+    (c .executions .ensures) (c .before .edge-starts .ensures)
 
 pub columns-of-spec : {M : Type 1} → statement M
 columns-of-spec =

@@ -1,8 +1,8 @@
-use Prim.Native.Nat.{_-_, _≤_}
+use Prim.Native.Nat.{_-_, _≤_, _<_}
 use mathlib.Core.Path.{_≡_, refl, sym, ap, _∙_}
 use mathlib.Core.List.{map}
 use native.Mathlib.Omega.{arith}
-use lib.ListN.{take, replicate, length-map, List·getD-map}
+use lib.ListN.{length, take, replicate, length-map, List·getD-map}
 use lib.Seq.{sets}
 use Rattle.table.specs.Record.{noVertex}
 use Rattle.meaning.specs.Bounds.{mostVertices}
@@ -44,7 +44,9 @@ loop-again : tie.Need-loop-again Inv-loop μ-loop
 loop-again c =
     let s = c .before .before .before in
     let l = c .before .before .loop in
-    (omega arith, col-more (replicate mostVertices 0) (l .e) (map executionIn (s .args .t1 .vertices)) (l .v) _ (omega (arith, length-map (s .args .t1 .vertices) executionIn, s .pre .cellsV, s .pre .few)) (l .inv .1) (sym (List·getD-map executionIn (s .args .t1 .vertices) (l .v) noVertex)))
+    let vs = s .args .t1 .vertices in
+    let h : l .v < length (map executionIn vs) = omega (arith, length-map vs executionIn, s .pre .cellsV, s .pre .few) in
+    (omega arith, col-more (replicate mostVertices 0) (l .e) (map executionIn vs) (l .v) _ h (l .inv .1) (sym (List·getD-map executionIn vs (l .v) noVertex)))
 
 returns : tie.Need-returns Inv-loop μ-loop
 returns c =

@@ -160,9 +160,12 @@ rows-from-loop-again-2 t c =
     let at-loop = at-separation .before .before .before in
     let x = at-loop .before .before .before .before .before .before .execution in
     let ex = x .ensures in
-    going-on (at-loop .loop .inv) (at-index .index3 .result) (at-separation .separation .result) (at-loop .before .before .before .before .before .before .before .before .follow-row .result .below + x .result)
-    (at-index .index3 .ensures) (at-separation .separation .ensures .0) (omega arith) (c .before .before .before .before .before .before .before .before .before .before .before .before .loop-test .taken) (omega arith) (at-loop .before .before .before .before .before .before .before .before .before .before .before .pre .1 .1 .0 .2)
-    (at-run .fill-run .last .0) (at-run .fill-run .ensures) (at-rows .rows-from .last .0) (at-rows .rows-from .last .1 .1 .1 .1 .1 .1 .0) (at-rows .rows-from .result) (at-rows .rows-from .ensures)
+    let total = at-loop .before .before .before .before .before .before .before .before .follow-row .result .below + x .result in
+    let short = at-loop .before .before .before .before .before .before .before .before .before .before .before .pre .1 .1 .0 .2 in
+    let test = at-separation .before .before .loop-test .taken in
+    going-on (at-loop .loop .inv) (at-index .index3 .result) (at-separation .separation .result) total
+    (at-index .index3 .ensures) (at-separation .separation .ensures .0) (omega arith) test (omega arith) short (at-run .fill-run .last .0) (at-run .fill-run .ensures)
+    (at-rows .rows-from .last .0) (at-rows .rows-from .last .1 .1 .1 .1 .1 .1 .0) (at-rows .rows-from .result) (at-rows .rows-from .ensures)
 
 rows-from-fill-run-requires-2 : (t : ℕ) → rows-from-lts.Need-fill-run-requires-2 (claims t) (rows-from-at t) rows-from.Post Inv-loop μ-loop
 rows-from-fill-run-requires-2 t c κs = let r = c .before .before .before .loop .inv .some in (omega arith, omega arith)

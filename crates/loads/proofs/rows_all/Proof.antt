@@ -33,7 +33,10 @@ loop-less : tie.Need-loop-less Inv-loop μ-loop
 loop-less c = omega arith
 
 loop-again : tie.Need-loop-again Inv-loop μ-loop
-loop-again c = filling-on (c .before .before .before .before .before .before .loop .inv) (c .before .before .before .before .before .loop-test .taken) (c .before .before .rows-from .last .0) (c .before .before .rows-from .last .1 .1 .1 .1 .1 .1 .0) (c .before .before .rows-from .result) (c .before .before .rows-from .ensures)
+loop-again c =
+    let at-rows = c .before .before in
+    filling-on (at-rows .before .before .before .before .loop .inv) (at-rows .before .before .before .loop-test .taken) (at-rows .rows-from .last .0) (at-rows .rows-from .last .1 .1 .1 .1 .1 .1 .0)
+    (at-rows .rows-from .result) (at-rows .rows-from .ensures)
 
 same-length : tie.Need-same-length Inv-loop μ-loop
 same-length c = c .before .loop .inv .size

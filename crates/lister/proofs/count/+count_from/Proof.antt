@@ -109,7 +109,7 @@ count-from-returns t c =
     let at-separation = at-edge .before .before .before in
     let at-loop = at-separation .before .before .before in
     counting-full (at-loop .loop .inv) (at-edge .index3 .result) (at-separation .separation .result) (c .before .count-from .result) (at-edge .index3 .ensures)
-    (at-separation .separation .ensures .0) (c .before .before .before .before .before .before .before .loop-test .taken) (omega arith) (c .before .count-from .ensures) (at-loop .before .before .before .before .before .before .pre .1 .0)
+    (at-separation .separation .ensures .0) (at-separation .before .before .loop-test .taken) (omega arith) (c .before .count-from .ensures) (at-loop .before .before .before .before .before .before .pre .1 .0)
     (at-loop .before .before .before .before .before .follow .ensures) (c .if2 .taken)
 
 count-from-add-k-2 : (t : ℕ) → count-from-lts.Need-add-k-2 (claims t) (count-from-at t) count-from.Post Inv-loop μ-loop
@@ -124,7 +124,7 @@ count-from-loop-again-2 t c =
     let at-separation = at-edge .before .before .before in
     let at-loop = at-separation .before .before .before in
     counting-on (at-loop .loop .inv) (at-edge .index3 .result) (at-separation .separation .result) (c .before .count-from .result) (at-edge .index3 .ensures)
-    (at-separation .separation .ensures .0) (c .before .before .before .before .before .before .before .loop-test .taken) (omega arith) (c .before .count-from .ensures) (c .if2 .left)
+    (at-separation .separation .ensures .0) (at-separation .before .before .loop-test .taken) (omega arith) (c .before .count-from .ensures) (c .if2 .left)
 
 count-from-returns-2 : (t : ℕ) → count-from-lts.Need-returns-2 (claims t) (count-from-at t) count-from.Post Inv-loop μ-loop
 count-from-returns-2 t c =
