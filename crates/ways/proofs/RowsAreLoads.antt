@@ -5,7 +5,7 @@ use native.Mathlib.Nat.{add-zero}
 use native.Mathlib.Omega.{arith}
 use mathlib.Core.List.{List, [], _∷_, _++_, map, map-map, List·Memᴰ, List·Memᴰ·head, List·Memᴰ·tail, Memᴰ·map}
 use lib.ListN.{length, getD, replicate}
-use Rattle.meaning.specs.Lists.{gather, countFrom, ticks}
+use Rattle.meaning.specs.Lists.{countFrom, ticks}
 use Rattle.meaning.specs.Bounds.{mostVertices}
 use Rattle.meaning.specs.Table.{Edge, Task}
 use Rattle.meaning.specs.Paths.{separation, execution, load, completePaths}
@@ -18,7 +18,7 @@ use Rattle.ways.specs.Ways.{onBy, waysFrom, ways, allWays, verticesBy, p
 use Rattle.ways.specs.Runs.{loadRow, runs, wayRow, wayRows}
 use Rattle.ways.proofs.Ways.{edge-below}
 use Rattle.ways.proofs.Taken.{Taken, way-taken}
-use Rattle.ways.proofs.PathsAreWays.{tos, paths-are-ways}
+use Rattle.ways.proofs.PathsAreWays.{tos, waysOf, paths-are-ways}
 
 map-mem : {A B : Type 0} (f g : A → B) (xs : List A) → ((x : A) → List·Memᴰ x xs → f x ≡ g x) → map f xs ≡ map g xs
 map-mem f g [] h = refl
@@ -50,8 +50,11 @@ module _ {k : Task} {e start to p : List ℕ} (c : ColumnsOf k e start to p) whe
   room-pos zero x h = absurd (omega arith)
   room-pos (suc t) x h = refl
 
-  separation-at : (v j : ℕ) → v < mostVertices → getD start v 0 ≤ j → j < getD start v 0 + (getD start (v + 1) 0 - getD start v 0) → getD p j 0 ≡ separation k v (getD to j 0)
-  separation-at v j h a b = separation-is k (c .fanned) v (edgeAt to p v j) (subst (λ (xs : List Edge). List·Memᴰ (edgeAt to p v j) xs) (sym (c .outs v h)) (Memᴰ·map (edgeAt to p v) (mem-countFrom (getD start v 0) (getD start (v + 1) 0 - getD start v 0) j a b)))
+  separation-at : (v j : ℕ) → v < mostVertices → getD start v 0 ≤ j → j < getD start v 0 + (getD start (v + 1) 0 - getD start v 0)
+      → getD p j 0 ≡ separation k v (getD to j 0)
+  separation-at v j h a b =
+      let m = Memᴰ·map (edgeAt to p v) (mem-countFrom (getD start v 0) (getD start (v + 1) 0 - getD start v 0) j a b) in
+      separation-is k (c .fanned) v (edgeAt to p v j) (subst (λ (xs : List Edge). List·Memᴰ (edgeAt to p v j) xs) (sym (c .outs v h)) m)
 
   runs-loads : (room below v : ℕ) (h : List ℕ) → v < mostVertices → Taken start to p room v h → runs e to p room below v h ≡ cellsFrom room below v h
   runs-loads room below v [] hv w =
@@ -85,11 +88,11 @@ module _ {k : Task} {e start to p : List ℕ} (c : ColumnsOf k e start to p) whe
       runs-loads d 0 v h hv (way-taken start to p d d v h m)
       ∙ map-mem (λ (t : ℕ). 0 + runOn k v (tos to h) t) (load k (verticesBy to v h)) (ticks d) (λ t x. omega (arith, load-run k v (tos to h) t))
 
-  all-ways-rows : (d v n : ℕ) → v + n ≤ mostVertices → map (wayRow e to p d) (gather (λ (u : ℕ). onBy u (waysFrom start to p d d u)) (countFrom v n))
-      ≡ map (λ (q : List ℕ). loadRow k d (pathBy to q)) (gather (λ (u : ℕ). onBy u (waysFrom start to p d d u)) (countFrom v n))
+  all-ways-rows : (d v n : ℕ) → v + n ≤ mostVertices → map (wayRow e to p d) (waysOf start to p d v n)
+      ≡ map (λ (q : List ℕ). loadRow k d (pathBy to q)) (waysOf start to p d v n)
   all-ways-rows d v zero h = refl
   all-ways-rows d v (suc n) h =
-      let R = gather (λ (u : ℕ). onBy u (waysFrom start to p d d u)) (countFrom (suc v) n) in
+      let R = waysOf start to p d (suc v) n in
       let H = waysFrom start to p d d v in
       let L : List ℕ → List ℕ = λ (q : List ℕ). loadRow k d (pathBy to q) in
       map-append (wayRow e to p d) (onBy v H) R
@@ -104,5 +107,5 @@ module _ {k : Task} {e start to p : List ℕ} (c : ColumnsOf k e start to p) whe
   loads-are-rows d n h =
       let s = c .size in
       all-ways-rows d 0 (n - 0) (omega arith)
-      ∙ sym (map-map (loadRow k d) (pathBy to) (gather (λ (u : ℕ). onBy u (waysFrom start to p d d u)) (countFrom 0 (n - 0))))
+      ∙ sym (map-map (loadRow k d) (pathBy to) (waysOf start to p d 0 (n - 0)))
       ∙ ap (map (loadRow k d)) (sym (paths-are-ways c d n h))

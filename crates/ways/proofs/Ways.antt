@@ -4,20 +4,20 @@ use Prim.Native.Nat.{ℕ, zero, suc, _+_, _-_, _≤_, _<_, zero-le, max}
 use native.Mathlib.Numerals.{add-one}
 use native.Mathlib.Omega.{arith}
 use borrow.Author.Tests.{lt-ltb, le-ltb}
-use mathlib.Core.Bool.{Bool, true, false}
+use mathlib.Core.Bool.{Bool}
 use mathlib.Core.List.{List, [], _∷_, _++_}
 use lib.ListN.{length, getD, length-append, length-map}
 use lib.Dec.{ltb}
 use Rattle.meaning.specs.Lists.{pick, gather, countFrom}
 use Rattle.meaning.specs.Bounds.{mostVertices}
 use Rattle.columns.specs.Columns.{SoundColumns}
-use Rattle.ways.specs.Ways.{orStop, onBy, waysFrom, ways, allWays}
+use Rattle.ways.specs.Ways.{orStop, onBy, onward, waysFrom, ways, allWays}
 
 module _ (start to p : List ℕ) where
   -- the ways on by the edge k
   unfoldable pub byEdge : ℕ → ℕ → List (List ℕ)
   unfolding ways
-  byEdge r k = pick (ltb (getD p k 0) r) (onBy k (ways start to p (getD to k 0) (r - getD p k 0))) []
+  byEdge r k = onward to p (λ (room u : ℕ). ways start to p u room) r k
 
   -- the ways on by the edges from k up to e
   unfoldable pub byEdges : ℕ → ℕ → ℕ → List (List ℕ)
@@ -32,15 +32,16 @@ gather-none : {A : Type 0} (f : ℕ → List A) (k n : ℕ) → ((j : ℕ) → f
 gather-none f k zero h = refl
 gather-none f k (suc n) h = ap₂ _++_ (h k) (gather-none f (suc k) n h)
 
-pick-cong : (b : Bool) (xs ys : List (List ℕ)) → (b ≡ true → xs ≡ ys) → pick b xs [] ≡ pick b ys []
-pick-cong true xs ys h = h refl
-pick-cong false xs ys h = refl
+-- by the edge k in two ways, which are the same from where it leads
+onward-cong : (to p : List ℕ) (f g : ℕ → ℕ → List (List ℕ)) (room k : ℕ) → f (room - getD p k 0) (getD to k 0) ≡ g (room - getD p k 0) (getD to k 0)
+    → onward to p f room k ≡ onward to p g room k
+onward-cong to p f g room k e = ap (λ (hs : List (List ℕ)). pick (ltb (getD p k 0) room) (onBy k hs) []) e
 
 module _ (start to p : List ℕ) (s : SoundColumns start to p) where
   none-left : (n v : ℕ) → waysFrom start to p n 0 v ≡ [] ∷ []
   none-left zero v = refl
   none-left (suc n) v =
-      ap orStop (gather-none (λ (k : ℕ). pick (ltb (getD p k 0) 0) (onBy k (waysFrom start to p n (0 - getD p k 0) (getD to k 0))) [])
+      ap orStop (gather-none (onward to p (waysFrom start to p n) 0)
       (getD start v 0) (getD start (v + 1) 0 - getD start v 0)
       (λ j. ap (λ (b : Bool). pick b (onBy j (waysFrom start to p n (0 - getD p j 0) (getD to j 0))) []) (le-ltb (getD p j 0) 0 zero-le)))
 
@@ -56,18 +57,20 @@ module _ (start to p : List ℕ) (s : SoundColumns start to p) where
       rw z (none-left (suc n) v)
   fuel (suc n) (suc m) room v a b h =
       ap orStop (gather-cong _ _ (getD start v 0) (getD start (v + 1) 0 - getD start v 0)
-      (λ j x y. pick-cong (ltb (getD p j 0) room) (onBy j (waysFrom start to p n (room - getD p j 0) (getD to j 0))) (onBy j (waysFrom start to p m (room - getD p j 0) (getD to j 0)))
-      (λ t. let l = edge-below v j h x y in
-      ap (onBy j) (fuel n m (room - getD p j 0) (getD to j 0) (omega (arith, s .apart j l)) (omega (arith, s .apart j l)) (s .within j l)))))
+      (λ j x y.
+      let l = edge-below v j h x y in
+      onward-cong to p (waysFrom start to p n) (waysFrom start to p m) room j
+      (fuel n m (room - getD p j 0) (getD to j 0) (omega (arith, s .apart j l)) (omega (arith, s .apart j l)) (s .within j l))))
 
   pub ways-step : (v r : ℕ) → v < mostVertices → 0 < r → ways start to p v r ≡ orStop (byEdges start to p r (getD start v 0) (getD start (v + 1) 0))
   unfolding ways byEdges byEdge
   ways-step v zero h l = absurd (omega arith)
   ways-step v (suc n) h l =
       ap orStop (gather-cong _ _ (getD start v 0) (getD start (v + 1) 0 - getD start v 0)
-      (λ j x y. pick-cong (ltb (getD p j 0) (suc n)) (onBy j (waysFrom start to p n (suc n - getD p j 0) (getD to j 0))) (onBy j (waysFrom start to p (suc n - getD p j 0) (suc n - getD p j 0) (getD to j 0)))
-      (λ t. let l = edge-below v j h x y in
-      ap (onBy j) (fuel n (suc n - getD p j 0) (suc n - getD p j 0) (getD to j 0) (omega (arith, s .apart j l)) (omega arith) (s .within j l)))))
+      (λ j x y.
+      let l = edge-below v j h x y in
+      onward-cong to p (waysFrom start to p n) (λ (room u : ℕ). waysFrom start to p room room u) (suc n) j
+      (fuel n (suc n - getD p j 0) (suc n - getD p j 0) (getD to j 0) (omega (arith, s .apart j l)) (omega arith) (s .within j l))))
 
 module _ (start to p : List ℕ) where
   pub by-edges-none : (r k e : ℕ) → e ≤ k → byEdges start to p r k e ≡ []

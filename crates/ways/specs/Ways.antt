@@ -18,12 +18,15 @@ orStop (h ∷ hs) = h ∷ hs
 abbrev pub onBy : ℕ → List (List ℕ) → List (List ℕ)
 onBy k hs = map (λ (h : List ℕ). k ∷ h) hs
 
+-- by the edge k, where it leaves room, and then on
+abbrev pub onward : List ℕ → List ℕ → (ℕ → ℕ → List (List ℕ)) → ℕ → ℕ → List (List ℕ)
+onward to p on room k = pick (ltb (getD p k 0) room) (onBy k (on (room - getD p k 0) (getD to k 0))) []
+
 module _ (start to p : List ℕ) where
   -- the ways on from v with `room` ticks left; as many turns are enough, since an edge takes a tick or more
   abbrev pub waysFrom : ℕ → ℕ → ℕ → List (List ℕ)
   waysFrom zero room v = [] ∷ []
-  waysFrom (suc n) room v =
-      orStop (gather (λ (k : ℕ). pick (ltb (getD p k 0) room) (onBy k (waysFrom n (room - getD p k 0) (getD to k 0))) []) (edgesOf start v))
+  waysFrom (suc n) room v = orStop (gather (onward to p (waysFrom n) room) (edgesOf start v))
 
   unfoldable pub ways : ℕ → ℕ → List (List ℕ)
   ways v r = waysFrom r r v
