@@ -10,10 +10,10 @@ use lib.ListN.{length, getD, length-append, List·getD-append}
 use lib.Dec.{T, ltb, leb, eqb, leb→le, ltb→lt, eqb→eq}
 use Rattle.meaning.specs.Lists.{pick, Rising}
 use Rattle.meaning.specs.Bounds.{mostTasks, mostVertices, mostEdges, largestE, largestD, largestP}
-use Rattle.meaning.specs.Table.{Vertex, Edge, Task, Table, noVertex}
-use Rattle.meaning.specs.Text.{Line, frameOf, Begun, nothing, Step, on, over, wrong, within, closed, afterLast, gate, taskFrame, vertexFrame, edgeFrame, Wanted, aVertex, anEdge, aTask, wantedBy, isFrame, word, framed, stepAt, Reading, readable, unreadable, atEnd, readFrom, read, linesOf}
+use Rattle.meaning.specs.Table.{Vertex, Edge, Task, Table, vertex, edge, task, noVertex}
+use Rattle.meaning.specs.Text.{Line, frameOf, Begun, begun, nothing, Step, on, over, wrong, within, closed, afterLast, gate, taskFrame, vertexFrame, edgeFrame, Wanted, aVertex, anEdge, aTask, wantedBy, isFrame, word, framed, stepAt, Reading, readable, unreadable, atEnd, mostLines, readFrom, read, linesOf}
 use Rattle.meaning.specs.Sound.{SoundVertex, SoundEdge, EdgeBefore, SoundTask, AllSound, SoundTable}
-use Rattle.meaning.specs.Demands.{TextRefused}
+use Rattle.meaning.specs.Demands.{TextRefused, lastLine}
 use Rattle.meaning.proofs.Lists.{both-left, both-right}
 use Rattle.meaning.proofs.Rising.{rising-one, rising-append}
 
@@ -80,17 +80,24 @@ record Held (n : ℕ) (s : Begun) : Type 0 where
   edges : (x : Edge) → List·Memᴰ x (s .edges) → SoundEdge (s .vertices) x
   rising : Rising EdgeBefore (s .edges)
   first : 1 ≤ n
-  -- 45 lines a whole task, then the open task's: it has a line of its own as soon as it has or wants a vertex
-  line : n ≤ 45 * length (s .tasks) + length (s .vertices) + length (s .edges) + 1 + min 1 (length (s .vertices) + s .wantV)
+  -- the whole tasks' lines, then the open task's: it has a line of its own as soon as it has or wants a vertex
+  line : n ≤ mostLines * length (s .tasks) + length (s .vertices) + length (s .edges) + 1 + min 1 (length (s .vertices) + s .wantV)
 
 record Number (k : ℕ) : Type 0 where
   low : 1 ≤ k
   high : k ≤ 5
 
+-- not allowed here, outside its bounds
+not-here : Number 2
+not-here = record { low = omega arith; high = omega arith }
+
+outside : Number 3
+outside = record { low = omega arith; high = omega arith }
+
 -- what a step at line n keeps
 abbrev Ok : ℕ → Step → Type 0
 Ok n (on s) = Held (suc n) s
-Ok n (over ts) = SoundTable ts × (n ≤ 361)
+Ok n (over ts) = SoundTable ts × (n < lastLine)
 Ok n (wrong k) = Number k
 
 gate-ok : (n : ℕ) (b : Bool) (k : ℕ) (s : Step) → Number k → (T b → Ok n s) → Ok n (gate b k s)
@@ -109,14 +116,14 @@ no-edges (x ∷ es) h = absurd (omega (arith, h x (List·Memᴰ·head refl) .fro
 
 record Closed (n : ℕ) (ts : Table) : Type 0 where
   sound : AllSound ts
-  line : n ≤ 45 * length ts + 1
+  line : n ≤ mostLines * length ts + 1
   count : length ts ≤ mostTasks
 
 module _ (n : ℕ) (ts : List Task) (es : List Edge) (v e : ℕ) where
-  abbrev begun : List Vertex → Begun
-  begun vs = record { tasks = ts; vertices = vs; edges = es; wantV = v; wantE = e }
+  abbrev reading : List Vertex → Begun
+  reading vs = begun ts (task vs es) v e
 
-  open-sound : (x : Vertex) (vs : List Vertex) → Held n (begun (x ∷ vs)) → SoundTask (record { vertices = x ∷ vs; edges = es })
+  open-sound : (x : Vertex) (vs : List Vertex) → Held n (reading (x ∷ vs)) → SoundTask (task (x ∷ vs) es)
   open-sound x vs h =
       record {
         someVertex = omega arith;
@@ -127,10 +134,10 @@ module _ (n : ℕ) (ts : List Task) (es : List Edge) (v e : ℕ) where
         rising = h .rising;
       }
 
-  closed-held : (vs : List Vertex) → v ≡ 0 → Held n (begun vs) → Closed n (closed (begun vs))
+  closed-held : (vs : List Vertex) → v ≡ 0 → Held n (reading vs) → Closed n (closed (reading vs))
   closed-held [] w h = record { sound = h .tasks; line = omega (arith, h .line, no-edges es (h .edges)); count = omega (arith, h .taskCount) }
   closed-held (x ∷ vs) w h =
-      let k : Task = record { vertices = x ∷ vs; edges = es } in
+      let k : Task = task (x ∷ vs) es in
       let more = length-snoc ts k in
       record {
         sound = each-snoc ts k (h .tasks) (open-sound x vs h);
@@ -142,7 +149,7 @@ module _ (n : ℕ) (ts : List Task) (es : List Edge) (v e : ℕ) where
 
 task-ok : (n : ℕ) (s : Begun) (v e : ℕ) → Closed n (closed s) → length (closed s) < mostTasks → Ok n (taskFrame s v e)
 task-ok n s v e c h =
-    gate-ok n (within 1 mostVertices v && leb e mostEdges) 3 (on (record { tasks = closed s; vertices = []; edges = []; wantV = v; wantE = e })) (record { low = omega arith; high = omega arith })
+    gate-ok n (within 1 mostVertices v && leb e mostEdges) 3 (on (begun (closed s) (task [] []) v e)) outside
     (λ t.
     let r = both-left (within 1 mostVertices v) (leb e mostEdges) t in
     let low = leb→le 1 v (both-left (leb 1 v) (leb v mostVertices) r) in
@@ -160,10 +167,10 @@ task-ok n s v e c h =
 
 vertex-ok : (n : ℕ) (s : Begun) (e d : ℕ) → Held n s → 1 ≤ s .wantV → Ok n (vertexFrame s e d)
 vertex-ok n s e d h w =
-    let x : Vertex = record { e = e; d = d } in
+    let x : Vertex = vertex e d in
     let more = length-snoc (s .vertices) x in
     gate-ok n (within 1 largestE e && within 1 largestD d) 3
-    (on (record { tasks = s .tasks; vertices = s .vertices ++ (x ∷ []); edges = s .edges; wantV = s .wantV - 1; wantE = s .wantE })) (record { low = omega arith; high = omega arith })
+    (on (begun (s .tasks) (task (s .vertices ++ (x ∷ [])) (s .edges)) (s .wantV - 1) (s .wantE))) outside
     (λ t.
     let a = both-left (within 1 largestE e) (within 1 largestD d) t in
     let b = both-right (within 1 largestE e) (within 1 largestD d) t in
@@ -186,15 +193,15 @@ vertex-ok n s e d h w =
 
 edge-ok : (n : ℕ) (s : Begun) (f t p : ℕ) → Held n s → s .wantV ≡ 0 → 1 ≤ s .wantE → Ok n (edgeFrame s f t p)
 edge-ok n s f t p h w m =
-    let x : Edge = record { from = f; to = t; p = p } in
+    let x : Edge = edge f t p in
     let more = length-snoc (s .edges) x in
     let vs = s .vertices in
-    let end : Step = on (record { tasks = s .tasks; vertices = vs; edges = s .edges ++ (x ∷ []); wantV = 0; wantE = s .wantE - 1 }) in
+    let end : Step = on (begun (s .tasks) (task vs (s .edges ++ (x ∷ []))) 0 (s .wantE - 1)) in
     let from = ltb f (length vs) in
     let to = ltb t (length vs) in
     let b4 = leb (getD vs f noVertex .d) p in
     let b5 = afterLast (s .edges) x in
-    gate-ok n (from && to && within 1 largestP p) 3 (gate b4 4 (gate b5 5 end)) (record { low = omega arith; high = omega arith })
+    gate-ok n (from && to && within 1 largestP p) 3 (gate b4 4 (gate b5 5 end)) outside
     (λ u. gate-ok n b4 4 (gate b5 5 end) (record { low = omega arith; high = omega arith })
     (λ v. gate-ok n b5 5 end (record { low = omega arith; high = omega arith })
     (λ r.
@@ -230,9 +237,6 @@ wants (suc v) e = omega arith
 wants zero (suc e) = (refl, omega arith)
 wants zero zero = refl
 
-not-here : Number 2
-not-here = record { low = omega arith; high = omega arith }
-
 over-ok : (n : ℕ) (ts : Table) → Closed n ts → 0 < length ts → Ok n (over ts)
 over-ok n ts c h = (record { someTask = h; taskCount = c .count; eachTask = c .sound }, omega (arith, c .line, c .count))
 
@@ -256,7 +260,7 @@ abbrev Good : Reading → Type 0
 Good (readable ts) = SoundTable ts
 Good (unreadable k n) = TextRefused k n
 
-at-end : (ts : Table) (n : ℕ) (ls : List Line) → SoundTable ts → n ≤ 361 → Good (atEnd ts (suc n) ls)
+at-end : (ts : Table) (n : ℕ) (ls : List Line) → SoundTable ts → n < lastLine → Good (atEnd ts (suc n) ls)
 at-end ts n [] s h = s
 at-end ts n (l ∷ ls) s h = record { low = omega arith; high = omega arith; first = omega arith; last = omega arith }
 

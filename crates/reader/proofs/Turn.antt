@@ -7,18 +7,18 @@ use lib.ListN.{length, drop, length-drop}
 use lib.Seq.{drop-drop}
 use borrow.Author.Tests.{eq-eqb, ne-eqb}
 use Rattle.meaning.specs.Bounds.{mostTasks, mostVertices, mostEdges}
-use Rattle.meaning.specs.Text.{read}
+use Rattle.meaning.specs.Text.{mostLines, read}
 use Rattle.kinds.specs.declared.Refusal.{Refusal}
 use Rattle.kinds.specs.declared.Refusal.the-variants.{WrongFrame, BytesAfterEnd}
 use Rattle.table.specs.declared.Table.{Table}
 use Rattle.table.specs.Record.{noTable}
-use Rattle.lines.specs.declared.TaskOrEndLine.{TaskOrEndLine}
-use Rattle.lines.specs.declared.TaskOrEndLine.the-variants.{TaskTaken, EndTaken, FrameRefused}
+use Rattle.frames.specs.declared.TaskOrEndLine.{TaskOrEndLine}
+use Rattle.frames.specs.declared.TaskOrEndLine.the-variants.{TaskTaken, EndTaken, FrameRefused}
 use Rattle.lines.specs.declared.Outcome.the-variants.{AllTaken, StoppedBy}
 use Rattle.lines.specs.declared.TaskLines.{TaskLines}
-use Rattle.lines.specs.Frames.{taskBytes, partBytes, endBytes, taskOrEndLine}
+use Rattle.frames.specs.Frames.{taskBytes, partBytes, endBytes, taskOrEndLine}
 use Rattle.lines.specs.Parts.{taskLines}
-use Rattle.lines.proofs.TaskOrEnd.{TaskHas, task-has}
+use Rattle.frames.proofs.TaskOrEnd.{TaskHas, task-has}
 use Rattle.lines.proofs.TaskRead.{task-reach}
 use Rattle.lines.proofs.Reach.{Reach}
 use Rattle.lines.proofs.Turns.{lent, lent-drop}
@@ -32,8 +32,7 @@ use Rattle.reader.proofs.Whole.{whole}
 pub record Turn (s : List ℕ) (t : Table) (at line : ℕ) : Type 0 where
   pub inside : at ≤ length s
   pub few : t .n ≤ mostTasks
-  -- a task with all its vertices and edges has 45 lines
-  pub early : line ≤ 1 + 45 * t .n
+  pub early : line ≤ 1 + mostLines * t .n
   pub going : tasksOn (mostTasks - t .n) t line (drop at s) ≡ readingRecord (read s)
 
 pub turn-first : (s : List ℕ) (t : Table) → t ≡ noTable → Turn s t 0 1
@@ -75,7 +74,7 @@ pub record TaskFacts (s : List ℕ) (t : Table) (at line v e : ℕ) : Type 0 whe
   pub v-in : v ≤ mostVertices
   pub e-in : e ≤ mostEdges
   pub left : t .n < mostTasks
-  pub early : line ≤ 1 + 45 * t .n
+  pub early : line ≤ 1 + mostLines * t .n
 
 pub task-facts : {s : List ℕ} {t : Table} {at line v e : ℕ} {x : TaskOrEndLine} → FrameTurn s t at line x → x ≡ TaskTaken v e → TaskFacts s t at line v e
 task-facts {s} {t} {at} {line} {v} {e} f q =

@@ -5,25 +5,26 @@ use native.Mathlib.Omega.{arith}
 use native.Mathlib.Numerals.{add-one}
 use mathlib.Core.Bool.{Bool, true, false}
 use mathlib.Core.List.{List, [], _∷_, _++_, map}
-use lib.ListN.{length, drop, set, length-drop, drop-of-length-le}
+use lib.ListN.{length, length-append, drop, set, length-drop, drop-of-length-le}
 use lib.Seq.{drop-drop}
 use lib.Dec.{eqb}
 use borrow.Author.Tests.{eqb-true, eqb-false}
 use Rattle.meaning.specs.Bounds.{mostTasks}
 use Rattle.meaning.specs.Table as Meant
 use Rattle.meaning.specs.Text as Text
-use Rattle.meaning.specs.Text.{Line, lineFeed, linesOf, intoFirst, Begun, closed, unreadable, atEnd, readFrom, read}
+use Rattle.meaning.specs.Text.{Line, lineFeed, linesOf, intoFirst, Begun, begun, closed, unreadable, atEnd, readFrom, read}
 use Rattle.kinds.specs.declared.Refusal.the-variants.{WrongFrame}
 use Rattle.kinds.proofs.Numbers.{refusal-of-number}
 use Rattle.table.specs.Record.{padded, noTask, noTable, taskRecord, tableRecord}
-use Rattle.lines.specs.declared.TaskOrEndLine.{TaskOrEndLine}
-use Rattle.lines.specs.declared.TaskOrEndLine.the-variants.{TaskTaken, EndTaken, FrameRefused}
+use Rattle.frames.specs.declared.TaskOrEndLine.{TaskOrEndLine}
+use Rattle.frames.specs.declared.TaskOrEndLine.the-variants.{TaskTaken, EndTaken, FrameRefused}
 use Rattle.lines.specs.declared.TaskLines.{TaskLines}
-use Rattle.lines.specs.Frames.{taskBytes, partBytes, endBytes, endDigits, taskOrEndLine}
+use Rattle.frames.specs.Frames.{taskBytes, partBytes, endBytes, endDigits, taskOrEndLine}
 use Rattle.lines.specs.Parts.{taskLines}
-use Rattle.lines.proofs.Padded.{length-snoc, padded-set}
-use Rattle.lines.proofs.TaskOrEnd.{TaskBounds, frameGives, task-or-end-read, task-has, end-long}
-use Rattle.lines.proofs.TaskRead.{TaskGives, whole-task, no-task, task-run}
+use Rattle.lines.proofs.Padded.{padded-set}
+use Rattle.rules.proofs.Within.{TaskBounds}
+use Rattle.frames.proofs.TaskOrEnd.{frameGives, task-or-end-read, task-has, end-long}
+use Rattle.lines.proofs.TaskRead.{TaskGives, whole-task, task-stopped, task-run}
 use Rattle.reader.specs.declared.Reading.{Reading}
 use Rattle.reader.specs.Record.{refusedRecord, readingRecord}
 use Rattle.reader.proofs.Descent.{putTask, linesThen, frameThen, tasksOn, wholeText}
@@ -59,9 +60,9 @@ end-run ts line t h = go (eqb (length t) endBytes) refl
 
 -- the tasks ts, and another with the vertices X and the edges E, are read
 abbrev state : List Meant.Task → List Meant.Vertex → List Meant.Edge → Begun
-state ts X E = record { tasks = ts; vertices = X; edges = E; wantV = 0; wantE = 0 }
+state ts X E = begun ts (Meant.task X E) 0 0
 
-closed-some : (ts : List Meant.Task) (X : List Meant.Vertex) (E : List Meant.Edge) → 0 < length X → closed (state ts X E) ≡ ts ++ (record { vertices = X; edges = E } ∷ [])
+closed-some : (ts : List Meant.Task) (X : List Meant.Vertex) (E : List Meant.Edge) → 0 < length X → closed (state ts X E) ≡ ts ++ (Meant.task X E ∷ [])
 closed-some ts [] E h = absurd (omega arith)
 closed-some ts (x ∷ X) E h = refl
 
@@ -74,12 +75,12 @@ module _ (g : ℕ) (ih : Going g) (ts : List Meant.Task) (line v e : ℕ) (t : L
   behind = drop ((v + e) * partBytes) (drop taskBytes t)
 
   with-task : (R : Text.Reading) (a : TaskLines) → TaskGives R ts (suc line) v e behind a → linesThen (a .outcome) (line + 1 + a .count) (tasksOn g (putTask (tableRecord ts) (a .task)) (line + 1 + v + e) (drop (taskBytes + (v + e) * partBytes) t)) ≡ readingRecord R
-  with-task R a (no-task w i q) =
+  with-task R a (task-stopped w i q) =
       let o : suc line + i ≡ line + 1 + i = omega arith in
       simp (q, refusal-of-number, o)
   with-task R a (whole-task k lv q) =
       let c : closed (state ts (k .vertices) (k .edges)) ≡ ts ++ (k ∷ []) = closed-some ts (k .vertices) (k .edges) (omega (arith, m .some)) in
-      let ln : length (ts ++ (k ∷ [])) ≡ length ts + 1 = length-snoc ts k in
+      let ln : length (ts ++ (k ∷ [])) ≡ length ts + 1 = length-append ts (k ∷ []) in
       let p : set (padded mostTasks noTask (map taskRecord ts)) (length ts) (taskRecord k) ≡ padded mostTasks noTask (map taskRecord (ts ++ (k ∷ []))) = padded-set mostTasks noTask taskRecord ts k (omega arith) in
       let o : line + 1 + v + e ≡ suc line + v + e = omega arith in
       let d : drop (taskBytes + (v + e) * partBytes) t ≡ behind = sym (drop-drop ((v + e) * partBytes) taskBytes t) in
@@ -93,7 +94,7 @@ module _ (ts : List Meant.Task) (X : List Meant.Vertex) (E : List Meant.Edge) (l
   have = closed (state ts X E)
 
   abbrev task : ℕ → ℕ → Text.Reading
-  task v e = readFrom (record { tasks = have; vertices = []; edges = []; wantV = v; wantE = e }) (suc line) (linesOf (drop taskBytes t))
+  task v e = readFrom (begun have (Meant.task [] []) v e) (suc line) (linesOf (drop taskBytes t))
 
   frame-run : (K : ℕ → ℕ → Reading) → ((v e : ℕ) → taskOrEndLine (length have) t ≡ TaskTaken v e → K v e ≡ readingRecord (task v e)) → frameThen (taskOrEndLine (length have) t) (tableRecord have) line (length t) K ≡ readingRecord (readFrom (state ts X E) line (linesOf t))
   frame-run K h = go (taskOrEndLine (length have) t) refl ∙ ap readingRecord (sym (task-or-end-read ts X E line t))
@@ -112,10 +113,10 @@ tasks-run (suc g) ts X E line t s =
     let m : TaskBounds v e = task-has (length (closed (state ts X E))) v e t q .bounds in
     with-task g (λ a b c d f h. tasks-run g a b c d f h) (closed (state ts X E)) line v e t s m (task ts X E line t v e) (taskLines v e (drop taskBytes t)) (task-run (closed (state ts X E)) (suc line) v e (drop taskBytes t) (m .v-in) (m .e-in)))
 
-no-tasks : tableRecord [] ≡ noTable
+task-stoppeds : tableRecord [] ≡ noTable
 unfolding padded
-no-tasks = refl
+task-stoppeds = refl
 
 pub whole : (text : List ℕ) → wholeText text ≡ readingRecord (read text)
 unfolding read
-whole text = rw (← no-tasks) (tasks-run mostTasks [] [] [] 1 text (omega arith))
+whole text = rw (← task-stoppeds) (tasks-run mostTasks [] [] [] 1 text (omega arith))

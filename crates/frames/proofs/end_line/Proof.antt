@@ -1,4 +1,4 @@
-use Rattle.lines.proofs.Answers.{held, failed, end-kind, end-early, end-taken}
+use Rattle.frames.proofs.Answers.{held, failed, end-kind, end-early, end-taken}
 use borrow.Author.Needs.{needs}
 use Rattle.frames.proofs.end_line.Statement.{statement}
 use Rattle.frames.proofs.end_line.Tie as tie

@@ -1,4 +1,4 @@
-use Rattle.lines.proofs.Answers.{fault-none, fault-line, fault-frame, fault-then}
+use Rattle.frames.proofs.Answers.{fault-none, fault-line, fault-frame, fault-then}
 use borrow.Author.Needs.{needs}
 use Rattle.frames.proofs.fault.Statement.{statement}
 use Rattle.frames.proofs.fault.Tie as tie

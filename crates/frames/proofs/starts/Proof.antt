@@ -1,4 +1,4 @@
-use Rattle.lines.specs.Frames.{startsWith}
+use Rattle.frames.specs.Frames.{startsWith}
 use borrow.Author.Tests.{le-leb, lt-leb, eq-eqb, ne-eqb}
 use borrow.Author.Needs.{needs}
 use Rattle.frames.proofs.starts.Statement.{statement}

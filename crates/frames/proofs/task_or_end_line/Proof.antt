@@ -1,5 +1,5 @@
-use Rattle.lines.proofs.Answers.{held, failed, TaskSeen, task-kind, task-ninth, task-outside, task-taken}
-use Rattle.lines.proofs.Expected.{starts-says}
+use Rattle.frames.proofs.Answers.{held, failed, TaskSeen, task-kind, task-ninth, task-outside, task-taken}
+use Rattle.frames.proofs.Expected.{starts-says}
 use native.Mathlib.Omega.{arith}
 use borrow.Author.Needs.{needs}
 use Rattle.frames.proofs.task_or_end_line.Statement.{statement}

@@ -1,6 +1,6 @@
-use Rattle.lines.proofs.Answers.{held, failed, VertexSeen, vertex-kind, vertex-outside, vertex-taken}
-use Rattle.lines.proofs.Vertices.{VertexBounds, vertex-bounds}
-use Rattle.lines.proofs.Expected.{starts-says}
+use Rattle.frames.proofs.Answers.{held, failed, VertexSeen, vertex-kind, vertex-outside, vertex-taken}
+use Rattle.rules.proofs.Within.{VertexBounds, vertex-bounds}
+use Rattle.frames.proofs.Expected.{starts-says}
 use native.Mathlib.Omega.{arith}
 use borrow.Author.Needs.{needs}
 use Rattle.frames.proofs.vertex_line.Statement.{statement}
