@@ -42,7 +42,8 @@ bytes-of (pair {h} {l} {t} {f} p q z) =
     }
 
 -- the frame of a line whose pairs are bytes
-pub spelled-of : (m : ℕ) (t : List ℕ) → 2 * m < length t → getD t (2 * m) 0 ≡ lineFeed → Small (pairsAt t 0 m) → Spelled t (pairsAt t 0 m) (drop (suc (2 * m)) t)
+pub spelled-of : (m : ℕ) (t : List ℕ) → 2 * m < length t → getD t (2 * m) 0 ≡ lineFeed → Small (pairsAt t 0 m)
+    → Spelled t (pairsAt t 0 m) (drop (suc (2 * m)) t)
 spelled-of m [] long e h = absurd (omega arith)
 spelled-of zero (a ∷ t) long e h = subst (λ (z : ℕ). Spelled (z ∷ t) [] t) (sym e) feed
 spelled-of (suc m) (a ∷ []) long e h = absurd (omega arith)

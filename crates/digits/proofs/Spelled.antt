@@ -88,7 +88,8 @@ head-frame (a ∷ []) = go (eqb a lineFeed) refl
     go false e = simp e
 head-frame (a ∷ b ∷ t) = go (eqb a lineFeed) refl (eqb b lineFeed) refl (head-frame t)
   where
-    go : (x : Bool) → eqb a lineFeed ≡ x → (y : Bool) → eqb b lineFeed ≡ y → hexFed (headOf (linesOf t)) ≡ frameAt t → hexFed (headOf (linesOf (a ∷ b ∷ t))) ≡ frameAt (a ∷ b ∷ t)
+    go : (x : Bool) → eqb a lineFeed ≡ x → (y : Bool) → eqb b lineFeed ≡ y → hexFed (headOf (linesOf t)) ≡ frameAt t
+        → hexFed (headOf (linesOf (a ∷ b ∷ t))) ≡ frameAt (a ∷ b ∷ t)
     go true e y f ih = simp e
     go false e true f ih =
         let k : digitOf b ≡ none = subst (λ (z : ℕ). digitOf z ≡ none) (sym (eqb-true b lineFeed f)) refl in

@@ -14,8 +14,8 @@ use Rattle.frames.specs.declared.VertexLine.the-variants.{VertexTaken, V
 use Rattle.frames.specs.declared.EdgeLine.the-variants.{EdgeTaken, EdgeRefused}
 use Rattle.frames.specs.declared.TaskOrEndLine.{TaskOrEndLine}
 use Rattle.frames.specs.declared.TaskOrEndLine.the-variants.{TaskTaken, EndTaken, FrameRefused}
-use Rattle.digits.specs.Digits.{pairAt, wordAt, frameAt, digitCount}
-use Rattle.frames.specs.Frames.{taskDigits, partDigits, endDigits, faultOf, startsWith, vertexLine, edgeLine, endLine, taskOrEndLine}
+use Rattle.digits.specs.Digits.{frameAt, digitCount}
+use Rattle.frames.specs.Frames.{taskDigits, partDigits, endDigits, faultOf, startsWith, vertexE, vertexD, vertexLine, edgeFrom, edgeTo, edgeP, edgeLine, taskVertices, taskEdges, endLine, taskOrEndLine}
 use Rattle.rules.specs.Rules.{taskIn, vertexIn, edgeIn, edgeSpaced, edgeAfter}
 
 -- a call gave b for the test x, and the code went on, or left, at `!b`
@@ -50,10 +50,11 @@ module _ (t : List ℕ) (n : ℕ) (w : Refusal) where
 -- a line that starts as a vertex's, with the numbers that stand there
 pub record VertexSeen (t : List ℕ) (e d : ℕ) : Type 0 where
   pub starts : startsWith t 50 partDigits ≡ true
-  pub e-there : e ≡ wordAt t 2
-  pub d-there : d ≡ wordAt t 6
+  pub e-there : e ≡ vertexE t
+  pub d-there : d ≡ vertexD t
 
-pub vertex-kind : (t : List ℕ) {w : Refusal} → startsWith t 50 partDigits ≡ false → w ≡ faultOf t partDigits WrongFrame → VertexRefused w ≡ vertexLine t
+pub vertex-kind : (t : List ℕ) {w : Refusal} → startsWith t 50 partDigits ≡ false → w ≡ faultOf t partDigits WrongFrame
+    → VertexRefused w ≡ vertexLine t
 unfolding vertexLine
 vertex-kind t h x = rw (h, x)
 
@@ -71,12 +72,13 @@ module _ {t : List ℕ} {e d : ℕ} (s : VertexSeen t e d) where
 -- a line that starts as an edge's, with the numbers that stand there
 pub record EdgeSeen (t : List ℕ) (from to p : ℕ) : Type 0 where
   pub starts : startsWith t 51 partDigits ≡ true
-  pub from-there : from ≡ pairAt t 2
-  pub to-there : to ≡ pairAt t 4
-  pub p-there : p ≡ wordAt t 6
+  pub from-there : from ≡ edgeFrom t
+  pub to-there : to ≡ edgeTo t
+  pub p-there : p ≡ edgeP t
 
 module _ (n : ℕ) (vs : List Vertex) (least : ℕ) where
-  pub edge-kind : (t : List ℕ) {w : Refusal} → startsWith t 51 partDigits ≡ false → w ≡ faultOf t partDigits WrongFrame → EdgeRefused w ≡ edgeLine n vs least t
+  pub edge-kind : (t : List ℕ) {w : Refusal} → startsWith t 51 partDigits ≡ false → w ≡ faultOf t partDigits WrongFrame
+      → EdgeRefused w ≡ edgeLine n vs least t
   unfolding edgeLine
   edge-kind t h x = rw (h, x)
 
@@ -107,8 +109,8 @@ module _ (n : ℕ) (vs : List Vertex) (least : ℕ) where
 pub record TaskSeen (k : ℕ) (t : List ℕ) (v e : ℕ) : Type 0 where
   pub starts : startsWith t 49 taskDigits ≡ true
   pub fits : k < mostTasks
-  pub v-there : v ≡ pairAt t 2
-  pub e-there : e ≡ pairAt t 4
+  pub v-there : v ≡ taskVertices t
+  pub e-there : e ≡ taskEdges t
 
 module _ (k : ℕ) (t : List ℕ) where
   pub end-kind : {w : Refusal} → startsWith t 48 endDigits ≡ false → w ≡ faultOf t endDigits WrongFrame → FrameRefused w ≡ endLine k t
@@ -127,7 +129,8 @@ module _ (k : ℕ) (t : List ℕ) where
   unfolding taskOrEndLine
   task-kind h e = rw (h, e)
 
-  pub task-ninth : {w : Refusal} → startsWith t 49 taskDigits ≡ true → mostTasks ≤ k → w ≡ faultOf t taskDigits WrongFrame → FrameRefused w ≡ taskOrEndLine k t
+  pub task-ninth : {w : Refusal} → startsWith t 49 taskDigits ≡ true → mostTasks ≤ k → w ≡ faultOf t taskDigits WrongFrame
+      → FrameRefused w ≡ taskOrEndLine k t
   unfolding taskOrEndLine
   task-ninth h l x = rw (h, le-leb _ _ l, x)
 

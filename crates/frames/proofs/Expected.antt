@@ -29,7 +29,9 @@ same-pick false a = refl
 
 -- ---- the refusal of a line
 
-pub fault-law : (s : Begun) (n N : ℕ) (w : Refusal) (t : List ℕ) → ((b : ℕ) (f r : List ℕ) → Spelled t (b ∷ f) r → framed s (wantedBy (s .wantV) (s .wantE)) (b ∷ f) ≡ wrong (refusalNumber (pick (eqb (digitCount 0 (some (b ∷ f))) N) w WrongFrame))) → readFrom s n (linesOf t) ≡ unreadable (refusalNumber (faultOf t N w)) n
+pub fault-law : (s : Begun) (n N : ℕ) (w : Refusal) (t : List ℕ)
+    → ((b : ℕ) (f r : List ℕ) → Spelled t (b ∷ f) r → framed s (wantedBy (s .wantV) (s .wantE)) (b ∷ f) ≡ wrong (refusalNumber (pick (eqb (digitCount 0 (some (b ∷ f))) N) w WrongFrame)))
+    → readFrom s n (linesOf t) ≡ unreadable (refusalNumber (faultOf t N w)) n
 unfolding faultOf
 fault-law s n N w [] h = refl
 fault-law s n N w (a ∷ t) h = go (first (a ∷ t))
@@ -56,7 +58,8 @@ pub starts-says : (t : List ℕ) (k n : ℕ) → startsWith t k n ≡ true → S
 unfolding startsWith
 starts-says t k n = go (leb (length t) n) refl (eqb (getD t 0 0) 48) refl (eqb (getD t 1 0) k) refl (eqb (getD t n 0) lineFeed) refl
   where
-    go : (a : Bool) → leb (length t) n ≡ a → (b : Bool) → eqb (getD t 0 0) 48 ≡ b → (c : Bool) → eqb (getD t 1 0) k ≡ c → (d : Bool) → eqb (getD t n 0) lineFeed ≡ d → startsWith t k n ≡ true → Starts t k n
+    go : (a : Bool) → leb (length t) n ≡ a → (b : Bool) → eqb (getD t 0 0) 48 ≡ b → (c : Bool) → eqb (getD t 1 0) k ≡ c → (d : Bool)
+        → eqb (getD t n 0) lineFeed ≡ d → startsWith t k n ≡ true → Starts t k n
     go true p b q c u d v e = differ (sym (simp p at e))
     go false p false q c u d v e = differ (sym (simp (p, q) at e))
     go false p true q false u d v e = differ (sym (simp (p, q, u) at e))
@@ -102,10 +105,13 @@ module _ (κ : ℕ) (low : κ < 10) where
           differ (sym (subst (λ (n : ℕ). startsWith t (κ + 48) (2 * n) ≡ true) l (starts-true z (frame-kind κ m (b ∷ f) q))) ∙ e)
 
   -- where the rest of an expected line fails
-  pub fails : {t f r : List ℕ} {b : ℕ} (m : ℕ) (w : Refusal) (x : Step) → Spelled t (b ∷ f) r → Starts t (κ + 48) (2 * m) → (isFrame κ m (b ∷ f) ≡ true → x ≡ wrong (refusalNumber w)) → pick (isFrame κ m (b ∷ f)) x (wrong 2) ≡ wrong (refusalNumber (pick (eqb (digitCount 0 (some (b ∷ f))) (2 * m)) w WrongFrame))
+  pub fails : {t f r : List ℕ} {b : ℕ} (m : ℕ) (w : Refusal) (x : Step) → Spelled t (b ∷ f) r → Starts t (κ + 48) (2 * m)
+      → (isFrame κ m (b ∷ f) ≡ true → x ≡ wrong (refusalNumber w))
+      → pick (isFrame κ m (b ∷ f)) x (wrong 2) ≡ wrong (refusalNumber (pick (eqb (digitCount 0 (some (b ∷ f))) (2 * m)) w WrongFrame))
   fails {t} {f} {r} {b} m w x z s h = go (isFrame κ m (b ∷ f)) refl
     where
-      go : (y : Bool) → isFrame κ m (b ∷ f) ≡ y → pick (isFrame κ m (b ∷ f)) x (wrong 2) ≡ wrong (refusalNumber (pick (eqb (digitCount 0 (some (b ∷ f))) (2 * m)) w WrongFrame))
+      go : (y : Bool) → isFrame κ m (b ∷ f) ≡ y
+          → pick (isFrame κ m (b ∷ f)) x (wrong 2) ≡ wrong (refusalNumber (pick (eqb (digitCount 0 (some (b ∷ f))) (2 * m)) w WrongFrame))
       go true q =
           let l : length (b ∷ f) ≡ m = frame-long κ m (b ∷ f) q in
           simp (q, eq-eqb (digitCount 0 (some (b ∷ f))) (2 * m) (omega arith)) (h q)

@@ -20,7 +20,8 @@ step-read s n l ls = go (stepAt s (frameOf l)) refl
     go (over z) e = rw (e, readFrom)
     go (wrong z) e = rw (e, readFrom)
 
-line-read : (s : Begun) (n a : ℕ) (t : List ℕ) → readFrom s n (linesOf (a ∷ t)) ≡ readStep (stepAt s (nonEmpty (frameAt (a ∷ t)))) n (tailOf (linesOf (a ∷ t)))
+line-read : (s : Begun) (n a : ℕ) (t : List ℕ)
+    → readFrom s n (linesOf (a ∷ t)) ≡ readStep (stepAt s (nonEmpty (frameAt (a ∷ t)))) n (tailOf (linesOf (a ∷ t)))
 line-read s n a t =
     let ls = linesOf (a ∷ t) in
     ap (readFrom s n) (some-lines a t)
@@ -28,7 +29,8 @@ line-read s n a t =
     ∙ ap (λ (o : Option (List ℕ)). readStep (stepAt s o) n (tailOf ls)) (first-frame a t)
 
 -- a right line of at least one byte
-pub right-read : (s : Begun) (n : ℕ) {t f r : List ℕ} {b : ℕ} → Spelled t (b ∷ f) r → readFrom s n (linesOf t) ≡ readStep (framed s (wantedBy (s .wantV) (s .wantE)) (b ∷ f)) n (linesOf r)
+pub right-read : (s : Begun) (n : ℕ) {t f r : List ℕ} {b : ℕ} → Spelled t (b ∷ f) r
+    → readFrom s n (linesOf t) ≡ readStep (framed s (wantedBy (s .wantV) (s .wantE)) (b ∷ f)) n (linesOf r)
 right-read s n (pair {h} {l} {t} {f} {r} p q z) =
     line-read s n h (l ∷ t)
     ∙ ap (λ (o : Option (List ℕ)). readStep (stepAt s (nonEmpty o)) n (tailOf (linesOf (h ∷ l ∷ t)))) (frame-right (pair p q z))

@@ -19,7 +19,7 @@ use Rattle.frames.specs.declared.TaskOrEndLine.{TaskOrEndLine}
 use Rattle.frames.specs.declared.TaskOrEndLine.the-variants.{TaskTaken, EndTaken, FrameRefused}
 use Rattle.digits.specs.Digits.{worthOf, pairAt}
 use Rattle.rules.specs.Rules.{taskIn}
-use Rattle.frames.specs.Frames.{taskDigits, taskBytes, endDigits, endBytes, faultOf, startsWith, endLine, taskOrEndLine}
+use Rattle.frames.specs.Frames.{taskDigits, taskBytes, endDigits, endBytes, faultOf, startsWith, endLine, taskVertices, taskEdges, taskOrEndLine}
 use Rattle.digits.proofs.Spelled.{Spelled}
 use Rattle.digits.proofs.Pairs.{pairsAt, spelled-of}
 use Rattle.digits.proofs.Digits.{foreign-above}
@@ -57,23 +57,24 @@ module _ (ts : List Meant.Task) (X : List Meant.Vertex) (E : List Meant.Edge) (n
   few = leb mostTasks (length have)
 
   abbrev inside : Bool
-  inside = taskIn (pairAt t 2) (pairAt t 4)
+  inside = taskIn (taskVertices t) (taskEdges t)
 
   task-wrong : {f r : List ℕ} → Spelled t f r → isFrame 1 3 f ≡ true → inside ≡ false → taskFrame before (getD f 1 0) (getD f 2 0) ≡ wrong 3
   unfolding taskIn
   task-wrong z i q = rw (framed-bytes 1 3 z i) (simp q)
 
-  task-right : startsWith t 49 taskDigits ≡ true → few ≡ false → inside ≡ true → readFrom before n (linesOf t) ≡ behind (pairAt t 2) (pairAt t 4)
+  task-right : startsWith t 49 taskDigits ≡ true → few ≡ false → inside ≡ true → readFrom before n (linesOf t) ≡ behind (taskVertices t) (taskEdges t)
   unfolding taskIn worthOf
   task-right p o q =
       let s : Starts t 49 taskDigits = starts-says t 49 taskDigits p in
-      let m : TaskBounds (pairAt t 2) (pairAt t 4) = task-bounds (pairAt t 2) (pairAt t 4) q in
+      let m : TaskBounds (taskVertices t) (taskEdges t) = task-bounds (taskVertices t) (taskEdges t) q in
       let above = foreign-above in
       let c : pairAt t 0 ≡ 1 = simp (s .first, s .second) in
       let z : Spelled t (pairsAt t 0 3) (drop taskBytes t) = spelled-of 3 t (s .long) (s .fed) (omega arith, (omega arith, (omega arith, tt))) in
       right-read before n z ∙ simp (eq-eqb (pairAt t 0) 1 c, lt-ltb (length have) mostTasks (leb-false mostTasks (length have) o), q)
 
-  end-framed : startsWith t 48 endDigits ≡ true → readFrom before n (linesOf t) ≡ readStep (pick (ltb 0 (length have)) (over have) (wrong 2)) n (linesOf (drop endBytes t))
+  end-framed : startsWith t 48 endDigits ≡ true
+      → readFrom before n (linesOf t) ≡ readStep (pick (ltb 0 (length have)) (over have) (wrong 2)) n (linesOf (drop endBytes t))
   unfolding worthOf
   end-framed p =
       let s : Starts t 48 endDigits = starts-says t 48 endDigits p in
@@ -133,17 +134,18 @@ module _ (k v e : ℕ) (t : List ℕ) where
 
   pub task-has : taskOrEndLine k t ≡ TaskTaken v e → TaskHas k v e t
   unfolding taskOrEndLine
-  task-has = go (startsWith t 49 taskDigits) refl (leb mostTasks k) refl (taskIn (pairAt t 2) (pairAt t 4)) refl
+  task-has = go (startsWith t 49 taskDigits) refl (leb mostTasks k) refl (taskIn (taskVertices t) (taskEdges t)) refl
     where
-      go : (a : Bool) → startsWith t 49 taskDigits ≡ a → (b : Bool) → leb mostTasks k ≡ b → (c : Bool) → taskIn (pairAt t 2) (pairAt t 4) ≡ c → taskOrEndLine k t ≡ TaskTaken v e → TaskHas k v e t
+      go : (a : Bool) → startsWith t 49 taskDigits ≡ a → (b : Bool) → leb mostTasks k ≡ b → (c : Bool) → taskIn (taskVertices t) (taskEdges t) ≡ c
+          → taskOrEndLine k t ≡ TaskTaken v e → TaskHas k v e t
       go false p b q c u h = end-no-task (simp p at h)
       go true p true q c u h = refused (simp (p, q) at h)
       go true p false q false u h = refused (simp (p, q, u) at h)
       go true p false q true u h =
-          let g : TaskTaken (pairAt t 2) (pairAt t 4) ≡ TaskTaken v e = simp (p, q, u) at h in
-          let x : pairAt t 2 ≡ v = cc in
-          let y : pairAt t 4 ≡ e = cc in
-          let m : TaskBounds (pairAt t 2) (pairAt t 4) = task-bounds (pairAt t 2) (pairAt t 4) u in
+          let g : TaskTaken (taskVertices t) (taskEdges t) ≡ TaskTaken v e = simp (p, q, u) at h in
+          let x : taskVertices t ≡ v = cc in
+          let y : taskEdges t ≡ e = cc in
+          let m : TaskBounds (taskVertices t) (taskEdges t) = task-bounds (taskVertices t) (taskEdges t) u in
           record { long = starts-says t 49 taskDigits p .long; fits = leb-false mostTasks k q; bounds = record { some = omega arith; v-in = omega arith; e-in = omega arith } }
 
 abbrev isEnd : TaskOrEndLine → Bool
@@ -154,14 +156,15 @@ isEnd (FrameRefused w) = false
 -- the end's line has two digits and a line feed
 pub end-long : (k : ℕ) (t : List ℕ) → taskOrEndLine k t ≡ EndTaken → endDigits < length t
 unfolding taskOrEndLine endLine
-end-long k t = go (startsWith t 49 taskDigits) refl (leb mostTasks k) refl (taskIn (pairAt t 2) (pairAt t 4)) refl (startsWith t 48 endDigits) refl
+end-long k t = go (startsWith t 49 taskDigits) refl (leb mostTasks k) refl (taskIn (taskVertices t) (taskEdges t)) refl (startsWith t 48 endDigits) refl
   where
     other : {A : Type 0} (x : TaskOrEndLine) → x ≡ EndTaken → isEnd x ≡ false → A
     other x e f = differ (sym (ap isEnd e) ∙ f)
 
-    go : (a : Bool) → startsWith t 49 taskDigits ≡ a → (b : Bool) → leb mostTasks k ≡ b → (c : Bool) → taskIn (pairAt t 2) (pairAt t 4) ≡ c → (d : Bool) → startsWith t 48 endDigits ≡ d → taskOrEndLine k t ≡ EndTaken → endDigits < length t
+    go : (a : Bool) → startsWith t 49 taskDigits ≡ a → (b : Bool) → leb mostTasks k ≡ b → (c : Bool) → taskIn (taskVertices t) (taskEdges t) ≡ c
+        → (d : Bool) → startsWith t 48 endDigits ≡ d → taskOrEndLine k t ≡ EndTaken → endDigits < length t
     go false p b q c u true w h = starts-says t 48 endDigits w .long
     go false p b q c u false w h = other (FrameRefused (faultOf t endDigits WrongFrame)) (simp (p, w) at h) refl
     go true p true q c u d w h = other (FrameRefused (faultOf t taskDigits WrongFrame)) (simp (p, q) at h) refl
     go true p false q false u d w h = other (FrameRefused (faultOf t taskDigits OutOfBounds)) (simp (p, q, u) at h) refl
-    go true p false q true u d w h = other (TaskTaken (pairAt t 2) (pairAt t 4)) (simp (p, q, u) at h) refl
+    go true p false q true u d w h = other (TaskTaken (taskVertices t) (taskEdges t)) (simp (p, q, u) at h) refl

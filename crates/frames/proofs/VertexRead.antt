@@ -14,13 +14,13 @@ use Rattle.table.specs.declared.Vertex.{Vertex}
 use Rattle.table.specs.Record.{vertexCells, vertexOf}
 use Rattle.frames.specs.declared.VertexLine.{VertexLine}
 use Rattle.frames.specs.declared.VertexLine.the-variants.{VertexTaken, VertexRefused}
-use Rattle.digits.specs.Digits.{worthOf, pairAt, wordAt}
+use Rattle.digits.specs.Digits.{worthOf, pairAt}
 use Rattle.rules.specs.Rules.{vertexIn}
-use Rattle.frames.specs.Frames.{partDigits, partBytes, faultOf, startsWith, vertexLine}
+use Rattle.frames.specs.Frames.{partDigits, partBytes, faultOf, startsWith, vertexE, vertexD, vertexLine}
 use Rattle.digits.proofs.Spelled.{Spelled}
-use Rattle.digits.proofs.Pairs.{pairsAt, spelled-of}
+use Rattle.digits.proofs.Pairs.{spelled-of}
 use Rattle.digits.proofs.Digits.{foreign-above}
-use Rattle.rules.proofs.Within.{VertexBounds, vertex-bounds}
+use Rattle.rules.proofs.Within.{vertex-bounds}
 use Rattle.frames.proofs.LineRead.{right-read}
 use Rattle.frames.proofs.Expected.{same-pick, fault-law, Starts, starts-says, framed-bytes, not-frame, fails}
 
@@ -36,26 +36,29 @@ module _ (ts : List Meant.Task) (vs : List Meant.Vertex) (es : List Meant.Edge) 
   abbrev pub behind : Vertex → Reading
   behind x = readFrom (begun ts (Meant.task (vs ++ (vertexOf x ∷ [])) es) k ne) (suc n) (linesOf (drop partBytes t))
 
-  vertex-wrong : {f r : List ℕ} → Spelled t f r → isFrame 2 5 f ≡ true → vertexIn (wordAt t 2) (wordAt t 6) ≡ false → vertexFrame before (word f 1) (word f 3) ≡ wrong 3
+  vertex-wrong : {f r : List ℕ} → Spelled t f r → isFrame 2 5 f ≡ true → vertexIn (vertexE t) (vertexD t) ≡ false
+      → vertexFrame before (word f 1) (word f 3) ≡ wrong 3
   unfolding vertexIn
   vertex-wrong z i q = rw (framed-bytes 2 5 z i) (simp q)
 
-  vertex-right : startsWith t 50 partDigits ≡ true → vertexIn (wordAt t 2) (wordAt t 6) ≡ true → readFrom before n (linesOf t) ≡ behind (vertexCells (wordAt t 2) (wordAt t 6))
+  vertex-right : startsWith t 50 partDigits ≡ true → vertexIn (vertexE t) (vertexD t) ≡ true
+      → readFrom before n (linesOf t) ≡ behind (vertexCells (vertexE t) (vertexD t))
   unfolding vertexIn worthOf
   vertex-right p q =
       let s : Starts t 50 partDigits = starts-says t 50 partDigits p in
-      let m : VertexBounds (wordAt t 2) (wordAt t 6) = vertex-bounds (wordAt t 2) (wordAt t 6) q in
+      let m = vertex-bounds (vertexE t) (vertexD t) q in
       let above = foreign-above in
       let c : pairAt t 0 ≡ 2 = simp (s .first, s .second) in
-      let z : Spelled t (pairsAt t 0 5) (drop partBytes t) = spelled-of 5 t (s .long) (s .fed) (omega arith, (omega arith, (omega arith, (omega arith, (omega arith, tt))))) in
+      let z = spelled-of 5 t (s .long) (s .fed) (omega arith, (omega arith, (omega arith, (omega arith, (omega arith, tt))))) in
       let o : suc k - 1 ≡ k = omega arith in
       right-read before n z ∙ simp (eq-eqb (pairAt t 0) 2 c, q, o)
 
   pub vertex-read : readFrom before n (linesOf t) ≡ vertexGives (vertexLine t) n behind
   unfolding vertexLine
-  vertex-read = go (startsWith t 50 partDigits) refl (vertexIn (wordAt t 2) (wordAt t 6)) refl
+  vertex-read = go (startsWith t 50 partDigits) refl (vertexIn (vertexE t) (vertexD t)) refl
     where
-      go : (x : Bool) → startsWith t 50 partDigits ≡ x → (y : Bool) → vertexIn (wordAt t 2) (wordAt t 6) ≡ y → readFrom before n (linesOf t) ≡ vertexGives (vertexLine t) n behind
+      go : (x : Bool) → startsWith t 50 partDigits ≡ x → (y : Bool) → vertexIn (vertexE t) (vertexD t) ≡ y
+          → readFrom before n (linesOf t) ≡ vertexGives (vertexLine t) n behind
       go false p y q = simp p (fault-law before n partDigits WrongFrame t (λ b f r z. simp (not-frame 2 (omega arith) 5 z p, same-pick)))
       go true p true q = simp (p, q) (vertex-right p q)
       go true p false q =

@@ -59,24 +59,39 @@ startsWith t k n =
 
 -- ---- a vertex's line
 
+abbrev pub vertexE : List ℕ → ℕ
+vertexE t = wordAt t 2
+
+abbrev pub vertexD : List ℕ → ℕ
+vertexD t = wordAt t 6
+
 unfoldable pub vertexLine : List ℕ → VertexLine
 vertexLine t =
     pick (startsWith t 50 partDigits)
-    (pick (vertexIn (wordAt t 2) (wordAt t 6))
-    (VertexTaken (vertexCells (wordAt t 2) (wordAt t 6)))
+    (pick (vertexIn (vertexE t) (vertexD t))
+    (VertexTaken (vertexCells (vertexE t) (vertexD t)))
     (VertexRefused (faultOf t partDigits OutOfBounds)))
     (VertexRefused (faultOf t partDigits WrongFrame))
 
 -- ---- an edge's line
 
+abbrev pub edgeFrom : List ℕ → ℕ
+edgeFrom t = pairAt t 2
+
+abbrev pub edgeTo : List ℕ → ℕ
+edgeTo t = pairAt t 4
+
+abbrev pub edgeP : List ℕ → ℕ
+edgeP t = wordAt t 6
+
 -- in a task of n vertices, vs, where `least` is the first place after the edge before
 unfoldable pub edgeLine : ℕ → List Vertex → ℕ → List ℕ → EdgeLine
 edgeLine n vs least t =
     pick (startsWith t 51 partDigits)
-    (pick (edgeIn n (pairAt t 2) (pairAt t 4) (wordAt t 6))
-    (pick (edgeSpaced (getD vs (pairAt t 2) noVertex .d .0) (wordAt t 6))
-    (pick (edgeAfter least (pairAt t 2) (pairAt t 4))
-    (EdgeTaken (edgeCells (pairAt t 2) (pairAt t 4) (wordAt t 6)))
+    (pick (edgeIn n (edgeFrom t) (edgeTo t) (edgeP t))
+    (pick (edgeSpaced (getD vs (edgeFrom t) noVertex .d .0) (edgeP t))
+    (pick (edgeAfter least (edgeFrom t) (edgeTo t))
+    (EdgeTaken (edgeCells (edgeFrom t) (edgeTo t) (edgeP t)))
     (EdgeRefused EdgeNotAfter))
     (EdgeRefused DeadlineOverSeparation))
     (EdgeRefused (faultOf t partDigits OutOfBounds)))
@@ -90,9 +105,15 @@ endLine k t =
     (pick (eqb k 0) (FrameRefused WrongFrame) EndTaken)
     (FrameRefused (faultOf t endDigits WrongFrame))
 
+abbrev pub taskVertices : List ℕ → ℕ
+taskVertices t = pairAt t 2
+
+abbrev pub taskEdges : List ℕ → ℕ
+taskEdges t = pairAt t 4
+
 unfoldable pub taskOrEndLine : ℕ → List ℕ → TaskOrEndLine
 taskOrEndLine k t =
     pick (startsWith t 49 taskDigits)
     (pick (leb mostTasks k) (FrameRefused (faultOf t taskDigits WrongFrame))
-    (pick (taskIn (pairAt t 2) (pairAt t 4)) (TaskTaken (pairAt t 2) (pairAt t 4)) (FrameRefused (faultOf t taskDigits OutOfBounds))))
+    (pick (taskIn (taskVertices t) (taskEdges t)) (TaskTaken (taskVertices t) (taskEdges t)) (FrameRefused (faultOf t taskDigits OutOfBounds))))
     (endLine k t)

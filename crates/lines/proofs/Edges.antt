@@ -28,8 +28,10 @@ use Rattle.lines.proofs.Reach.{drop-part, Reach, reach-none, reach-stop
 
 -- what becomes of the reading R: it goes on with the edges F in place and `rest` to read, or it ends at line l + i
 pub data EdgesGive (R : Reading) (ts : List Meant.Task) (X : List Meant.Vertex) (l m : ℕ) (rest : List ℕ) : EdgeLines → Type 0 where
-  all-edges : (F : List Meant.Edge) → length F ≡ m → R ≡ readFrom (begun ts (Meant.task X F) 0 0) (l + length F) (linesOf rest) → EdgesGive R ts X l m rest (tookEdges AllTaken (length F) (edgesRecord F))
-  edges-stopped : (w : Refusal) (i : ℕ) (es : List Edge) → R ≡ unreadable (refusalNumber w) (l + i) → EdgesGive R ts X l m rest (tookEdges (StoppedBy w) i es)
+  all-edges : (F : List Meant.Edge) → length F ≡ m → R ≡ readFrom (begun ts (Meant.task X F) 0 0) (l + length F) (linesOf rest)
+      → EdgesGive R ts X l m rest (tookEdges AllTaken (length F) (edgesRecord F))
+  edges-stopped : (w : Refusal) (i : ℕ) (es : List Edge) → R ≡ unreadable (refusalNumber w) (l + i)
+      → EdgesGive R ts X l m rest (tookEdges (StoppedBy w) i es)
 
 module _ (ts : List Meant.Task) (X : List Meant.Vertex) (l m : ℕ) (room : length X ≤ mostVertices) (top : m ≤ mostEdges) where
   abbrev at : List Meant.Edge → ℕ → ℕ → List ℕ → Reading
@@ -43,7 +45,8 @@ module _ (ts : List Meant.Task) (X : List Meant.Vertex) (l m : ℕ) (room : leng
   edges-run zero E least t h e = all-edges E (omega arith) refl
   edges-run (suc k) E least t h e = go (edgeLine (length X) (verticesRecord X) least t) refl (λ F z s g q. edges-run k F z s g q)
     where
-      go : (x : EdgeLine) → edgeLine (length X) (verticesRecord X) least t ≡ x → ((F : List Meant.Edge) (z : ℕ) (s : List ℕ) → Follows F z → length F + k ≡ m → Runs k F z s) → Runs (suc k) E least t
+      go : (x : EdgeLine) → edgeLine (length X) (verticesRecord X) least t ≡ x
+          → ((F : List Meant.Edge) (z : ℕ) (s : List ℕ) → Follows F z → length F + k ≡ m → Runs k F z s) → Runs (suc k) E least t
       go (EdgeRefused w) q ih = rw q (edges-stopped w (length E) (edgesRecord E) (edge-read ts X E k (l + length E) least t room h ∙ rw q))
       go (EdgeTaken x) q ih =
           let F : List Meant.Edge = E ++ (edgeOf x ∷ []) in
@@ -57,11 +60,14 @@ module _ (ts : List Meant.Task) (X : List Meant.Vertex) (l m : ℕ) (room : leng
 -- ---- how far they reach
 
 module _ (n : ℕ) (vs : List Vertex) where
-  pub edges-reach : (i : ℕ) (es : List Edge) (least k : ℕ) (t : List ℕ) → Reach i k t (edgesOn n vs i es least k t .count) (edgesOn n vs i es least k t .outcome)
+  pub edges-reach : (i : ℕ) (es : List Edge) (least k : ℕ) (t : List ℕ)
+      → Reach i k t (edgesOn n vs i es least k t .count) (edgesOn n vs i es least k t .outcome)
   unfolding edgesOn
   edges-reach i es least zero t = reach-none i t AllTaken
   edges-reach i es least (suc k) t = go (edgeLine n vs least t) refl (λ x z. edges-reach (i + 1) (set es i x) z k (drop partBytes t))
     where
-      go : (x : EdgeLine) → edgeLine n vs least t ≡ x → ((y : Edge) (z : ℕ) → Reach (i + 1) k (drop partBytes t) (edgesOn n vs (i + 1) (set es i y) z k (drop partBytes t) .count) (edgesOn n vs (i + 1) (set es i y) z k (drop partBytes t) .outcome)) → Reach i (suc k) t (edgesOn n vs i es least (suc k) t .count) (edgesOn n vs i es least (suc k) t .outcome)
+      go : (x : EdgeLine) → edgeLine n vs least t ≡ x
+          → ((y : Edge) (z : ℕ) → Reach (i + 1) k (drop partBytes t) (edgesOn n vs (i + 1) (set es i y) z k (drop partBytes t) .count) (edgesOn n vs (i + 1) (set es i y) z k (drop partBytes t) .outcome))
+          → Reach i (suc k) t (edgesOn n vs i es least (suc k) t .count) (edgesOn n vs i es least (suc k) t .outcome)
       go (EdgeRefused w) q ih = rw q (reach-stopped i (suc k) t w)
       go (EdgeTaken x) q ih = rw q (reach-more i k t _ _ (edge-has n vs least t x q .long) (ih x (leastAfter (x .from .0) (x .to .0))))

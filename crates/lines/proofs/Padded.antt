@@ -15,5 +15,6 @@ padded-more n z xs x h =
     let e : n - length xs ≡ suc (n - (length xs + 1)) = omega arith in
     rw (e, set-append-seam, length-append, append-assoc)
 
-pub padded-set : {X Y : Type 0} (n : ℕ) (z : Y) (f : X → Y) (xs : List X) (x : X) → length xs < n → set (padded n z (map f xs)) (length xs) (f x) ≡ padded n z (map f (xs ++ (x ∷ [])))
+pub padded-set : {X Y : Type 0} (n : ℕ) (z : Y) (f : X → Y) (xs : List X) (x : X) → length xs < n
+    → set (padded n z (map f xs)) (length xs) (f x) ≡ padded n z (map f (xs ++ (x ∷ [])))
 padded-set n z f xs x h = rw (map-append, ← length-map xs f) (padded-more n z (map f xs) (f x) (omega (arith, length-map xs f)))

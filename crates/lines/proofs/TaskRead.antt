@@ -37,14 +37,17 @@ taskBegun ts k n t = readFrom (begun ts k 0 0) n (linesOf t)
 
 -- what becomes of the reading R: it goes on with the task k in place and `rest` to read, or it ends at line l + i
 pub data TaskGives (R : Reading) (ts : List Meant.Task) (l v e : ℕ) (rest : List ℕ) : TaskLines → Type 0 where
-  whole-task : (k : Meant.Task) → length (k .vertices) ≡ v → R ≡ taskBegun ts k (l + v + e) rest → TaskGives R ts l v e rest (tookTask AllTaken (v + e) (taskRecord k))
+  whole-task : (k : Meant.Task) → length (k .vertices) ≡ v → R ≡ taskBegun ts k (l + v + e) rest
+      → TaskGives R ts l v e rest (tookTask AllTaken (v + e) (taskRecord k))
   task-stopped : (w : Refusal) (i : ℕ) → R ≡ unreadable (refusalNumber w) (l + i) → TaskGives R ts l v e rest (stoppedTask w i)
 
 module _ (ts : List Meant.Task) (l v e : ℕ) (t : List ℕ) (v-in : v ≤ mostVertices) (e-in : e ≤ mostEdges) where
   abbrev rest : List ℕ
   rest = drop ((v + e) * partBytes) t
 
-  with-edges : (R : Reading) (Y : List Meant.Vertex) (b : EdgeLines) → length Y ≡ v → EdgesGive R ts Y (l + length Y) e (drop (e * partBytes) (drop (v * partBytes) t)) b → TaskGives R ts l v e rest (taskWith v e (tookVertices AllTaken (length Y) (verticesRecord Y)) b)
+  with-edges : (R : Reading) (Y : List Meant.Vertex) (b : EdgeLines) → length Y ≡ v
+      → EdgesGive R ts Y (l + length Y) e (drop (e * partBytes) (drop (v * partBytes) t)) b
+      → TaskGives R ts l v e rest (taskWith v e (tookVertices AllTaken (length Y) (verticesRecord Y)) b)
   with-edges R Y b ly (edges-stopped w i es q) =
       let o : l + length Y + i ≡ l + (v + i) = omega arith in
       task-stopped w (v + i) (q ∙ ap (unreadable (refusalNumber w)) o)
@@ -56,7 +59,8 @@ module _ (ts : List Meant.Task) (l v e : ℕ) (t : List ℕ) (v-in : v ≤ mostV
       let r : R ≡ taskBegun ts k (l + v + e) rest = q ∙ rw (o, d) in
       rw (← lf, ← ly) (whole-task k refl (rw (ly, lf) r))
 
-  with-vertices : (R : Reading) (a : VertexLines) → VerticesGive R ts e l v (drop (v * partBytes) t) a → TaskGives R ts l v e rest (taskWith v e a (edgeLines v (a .vertices) e (drop (v * partBytes) t)))
+  with-vertices : (R : Reading) (a : VertexLines) → VerticesGive R ts e l v (drop (v * partBytes) t) a
+      → TaskGives R ts l v e rest (taskWith v e a (edgeLines v (a .vertices) e (drop (v * partBytes) t)))
   with-vertices R a (vertices-stopped w i vs q) = task-stopped w i q
   with-vertices R a (all-vertices Y ly q) =
       let s : List ℕ = drop (v * partBytes) t in
@@ -91,7 +95,8 @@ task-reach v e t = go (a .outcome) refl (b .outcome) refl (vertices-reach 0 (rep
     b : EdgeLines
     b = edgeLines v (a .vertices) e (drop (v * partBytes) t)
 
-    go : (x : Outcome) → a .outcome ≡ x → (y : Outcome) → b .outcome ≡ y → Reach 0 v t (a .count) (a .outcome) → Reach 0 e (drop (v * partBytes) t) (b .count) (b .outcome) → Reach 0 (v + e) t (taskWith v e a b .count) (taskWith v e a b .outcome)
+    go : (x : Outcome) → a .outcome ≡ x → (y : Outcome) → b .outcome ≡ y → Reach 0 v t (a .count) (a .outcome)
+        → Reach 0 e (drop (v * partBytes) t) (b .count) (b .outcome) → Reach 0 (v + e) t (taskWith v e a b .count) (taskWith v e a b .outcome)
     go (StoppedBy w) p y q r s = rw p (reach-stops v (v + e) t (a .count) w (omega (arith, r .few)) (omega arith))
     go AllTaken p (StoppedBy w) q r s = rw (p, q) (reach-stops (v + e) (v + e) t (v + b .count) w (omega (arith, s .few)) (omega arith))
     go AllTaken p AllTaken q r s = rw (p, q) (record { few = omega arith; room = λ z. omega (arith, r .room p, s .room q, length-drop (v * partBytes) t) })

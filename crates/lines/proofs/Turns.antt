@@ -110,7 +110,8 @@ module _ {n : ℕ} {vs : List Vertex} {s : List ℕ} {from m : ℕ} {es : List E
     pub edge-fits : {x : Edge} → g ≡ EdgeTaken x → at + partBytes ≤ length s
     edge-fits {x} q = omega (arith, edge-has n vs least (drop at s) x (edge-here ∙ q) .long, length-drop at s)
 
-    pub edges-more : {x : Edge} {l : ℕ} → g ≡ EdgeTaken x → l ≡ leastAfter (x .from .0) (x .to .0) → EdgeTurn n vs s from m (set es i x) l (at + partBytes) (i + 1)
+    pub edges-more : {x : Edge} {l : ℕ} → g ≡ EdgeTaken x → l ≡ leastAfter (x .from .0) (x .to .0)
+        → EdgeTurn n vs s from m (set es i x) l (at + partBytes) (i + 1)
     unfolding edgesOn
     edges-more {x} {l} q e =
         let same : edgesOn n vs (i + 1) (set es i x) l (m - (i + 1)) (drop (at + partBytes) s) ≡ edgesOn n vs i es least (m - i) (drop at s) =

@@ -25,8 +25,10 @@ use Rattle.lines.proofs.Padded.{padded-set}
 
 -- what becomes of the reading R: it goes on with the vertices Y in place and `rest` to read, or it ends at line l + i
 pub data VerticesGive (R : Reading) (ts : List Meant.Task) (ne l m : ℕ) (rest : List ℕ) : VertexLines → Type 0 where
-  all-vertices : (Y : List Meant.Vertex) → length Y ≡ m → R ≡ readFrom (begun ts (Meant.task Y []) 0 ne) (l + length Y) (linesOf rest) → VerticesGive R ts ne l m rest (tookVertices AllTaken (length Y) (verticesRecord Y))
-  vertices-stopped : (w : Refusal) (i : ℕ) (vs : List Vertex) → R ≡ unreadable (refusalNumber w) (l + i) → VerticesGive R ts ne l m rest (tookVertices (StoppedBy w) i vs)
+  all-vertices : (Y : List Meant.Vertex) → length Y ≡ m → R ≡ readFrom (begun ts (Meant.task Y []) 0 ne) (l + length Y) (linesOf rest)
+      → VerticesGive R ts ne l m rest (tookVertices AllTaken (length Y) (verticesRecord Y))
+  vertices-stopped : (w : Refusal) (i : ℕ) (vs : List Vertex) → R ≡ unreadable (refusalNumber w) (l + i)
+      → VerticesGive R ts ne l m rest (tookVertices (StoppedBy w) i vs)
 
 module _ (ts : List Meant.Task) (ne l m : ℕ) where
   abbrev at : List Meant.Vertex → ℕ → ℕ → List ℕ → Reading
@@ -57,6 +59,8 @@ unfolding verticesOn
 vertices-reach i vs zero t = reach-none i t AllTaken
 vertices-reach i vs (suc k) t = go (vertexLine t) refl (λ x. vertices-reach (i + 1) (set vs i x) k (drop partBytes t))
   where
-    go : (x : VertexLine) → vertexLine t ≡ x → ((y : Vertex) → Reach (i + 1) k (drop partBytes t) (verticesOn (i + 1) (set vs i y) k (drop partBytes t) .count) (verticesOn (i + 1) (set vs i y) k (drop partBytes t) .outcome)) → Reach i (suc k) t (verticesOn i vs (suc k) t .count) (verticesOn i vs (suc k) t .outcome)
+    go : (x : VertexLine) → vertexLine t ≡ x
+        → ((y : Vertex) → Reach (i + 1) k (drop partBytes t) (verticesOn (i + 1) (set vs i y) k (drop partBytes t) .count) (verticesOn (i + 1) (set vs i y) k (drop partBytes t) .outcome))
+        → Reach i (suc k) t (verticesOn i vs (suc k) t .count) (verticesOn i vs (suc k) t .outcome)
     go (VertexRefused w) q ih = rw q (reach-stopped i (suc k) t w)
     go (VertexTaken x) q ih = rw q (reach-more i k t _ _ (vertex-long t x q) (ih x))

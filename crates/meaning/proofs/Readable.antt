@@ -19,7 +19,8 @@ use Rattle.meaning.proofs.Rising.{rising-one, rising-append}
 
 -- ---- one more at the end of a list
 
-each-snoc : {A : Type 0} {Q : A → Type 0} (xs : List A) (x : A) → ((y : A) → List·Memᴰ y xs → Q y) → Q x → (y : A) → List·Memᴰ y (xs ++ (x ∷ [])) → Q y
+each-snoc : {A : Type 0} {Q : A → Type 0} (xs : List A) (x : A) → ((y : A) → List·Memᴰ y xs → Q y) → Q x → (y : A) → List·Memᴰ y (xs ++ (x ∷ []))
+    → Q y
 each-snoc {A} {Q} xs x h q y m = go (List·Memᴰ·append-cases xs m)
   where
     go : List·Memᴰ y xs ⊎ List·Memᴰ y (x ∷ []) → Q y
@@ -49,7 +50,8 @@ before-trans x y z (inl a) (inr b) = inl (omega (arith, b .0))
 before-trans x y z (inr a) (inl b) = inl (omega (arith, a .0))
 before-trans x y z (inr a) (inr b) = inr (a .0 ∙ b .0, omega (arith, a .1, b .1))
 
-test-before : (a b c : Bool) (x y : Edge) → (T a → x .from < y .from) → (T b → x .from ≡ y .from) → (T c → x .to < y .to) → T (a || (b && c)) → EdgeBefore x y
+test-before : (a b c : Bool) (x y : Edge) → (T a → x .from < y .from) → (T b → x .from ≡ y .from) → (T c → x .to < y .to) → T (a || (b && c))
+    → EdgeBefore x y
 test-before true b c x y f g h t = inl (f tt)
 test-before false b c x y f g h t = inr (g (both-left b c t), h (both-right b c t))
 
@@ -57,7 +59,8 @@ after-all : (es : List Edge) (x : Edge) → Rising EdgeBefore es → T (afterLas
 after-all [] x r t y m = absurd (List·Memᴰ·not-nil m)
 after-all (z ∷ []) x r t y m =
     subst (λ (w : Edge). EdgeBefore w x) (sym (List·Memᴰ·eq-of-singleton m))
-    (test-before (ltb (z .from) (x .from)) (eqb (z .from) (x .from)) (ltb (z .to) (x .to)) z x (ltb→lt (z .from) (x .from)) (eqb→eq (z .from) (x .from)) (ltb→lt (z .to) (x .to)) t)
+    (test-before (ltb (z .from) (x .from)) (eqb (z .from) (x .from)) (ltb (z .to) (x .to)) z x
+    (ltb→lt (z .from) (x .from)) (eqb→eq (z .from) (x .from)) (ltb→lt (z .to) (x .to)) t)
 after-all (z ∷ w ∷ es) x r t y m = go (after-all (w ∷ es) x (r .1) t) (List·Memᴰ·cases-cons m)
   where
     go : ((v : Edge) → List·Memᴰ v (w ∷ es) → EdgeBefore v x) → (y ≡ z) ⊎ List·Memᴰ y (w ∷ es) → EdgeBefore y x
@@ -243,14 +246,16 @@ over-ok n ts c h = (record { someTask = h; taskCount = c .count; eachTask = c .s
 framed-ok : (n : ℕ) (s : Begun) (w : Wanted) (f : List ℕ) → Held n s → Wants w (s .wantV) (s .wantE) → Ok n (framed s w f)
 framed-ok n s aVertex f h w = pick-ok n (isFrame 2 5 f) (vertexFrame s (word f 1) (word f 3)) (wrong 2) (λ t. vertex-ok n s (word f 1) (word f 3) h w) not-here
 framed-ok n s anEdge f h w =
-    pick-ok n (isFrame 3 5 f) (edgeFrame s (getD f 1 0) (getD f 2 0) (word f 3)) (wrong 2) (λ t. edge-ok n s (getD f 1 0) (getD f 2 0) (word f 3) h (w .0) (w .1)) not-here
+    pick-ok n (isFrame 3 5 f) (edgeFrame s (getD f 1 0) (getD f 2 0) (word f 3)) (wrong 2)
+    (λ t. edge-ok n s (getD f 1 0) (getD f 2 0) (word f 3) h (w .0) (w .1)) not-here
 framed-ok n s aTask f h w =
     let c = closed-held n (s .tasks) (s .edges) (s .wantV) (s .wantE) (s .vertices) w h in
     let few = ltb (length (closed s)) mostTasks in
     let some = ltb 0 (length (closed s)) in
     pick-ok n (isFrame 1 3 f && few) (taskFrame s (getD f 1 0) (getD f 2 0)) (pick (isFrame 0 1 f && some) (over (closed s)) (wrong 2))
     (λ t. task-ok n s (getD f 1 0) (getD f 2 0) c (ltb→lt (length (closed s)) mostTasks (both-right (isFrame 1 3 f) few t)))
-    (pick-ok n (isFrame 0 1 f && some) (over (closed s)) (wrong 2) (λ t. over-ok n (closed s) c (ltb→lt 0 (length (closed s)) (both-right (isFrame 0 1 f) some t))) not-here)
+    (pick-ok n (isFrame 0 1 f && some) (over (closed s)) (wrong 2)
+    (λ t. over-ok n (closed s) c (ltb→lt 0 (length (closed s)) (both-right (isFrame 0 1 f) some t))) not-here)
 
 step-ok : (n : ℕ) (s : Begun) (o : Option (List ℕ)) → Held n s → Ok n (stepAt s o)
 step-ok n s none h = record { low = omega arith; high = omega arith }
@@ -272,7 +277,8 @@ from-good : (s : Begun) (n : ℕ) (ls : List Line) → Held n s → Good (readFr
 from-good s n [] h = here n 6 s h (omega arith) (omega arith)
 from-good s n (l ∷ ls) h = go (λ s′ k. from-good s′ (suc n) ls k) (stepAt s (frameOf l)) refl (step-ok n s (frameOf l) h)
   where
-    go : ((s′ : Begun) → Held (suc n) s′ → Good (readFrom s′ (suc n) ls)) → (r : Step) → stepAt s (frameOf l) ≡ r → Ok n r → Good (readFrom s n (l ∷ ls))
+    go : ((s′ : Begun) → Held (suc n) s′ → Good (readFrom s′ (suc n) ls)) → (r : Step) → stepAt s (frameOf l) ≡ r → Ok n r
+        → Good (readFrom s n (l ∷ ls))
     go ih (on s′) e k = rw (e, readFrom) (ih s′ k)
     go ih (over ts) e k = rw (e, readFrom) (at-end ts n ls (k .0) (k .1))
     go ih (wrong m) e k = rw (e, readFrom) (here n m s h (k .low) (omega (arith, k .high)))

@@ -40,7 +40,8 @@ turn-first s t e =
     let none : t .n ≡ 0 = ap (λ (z : Table). z .n) e in
     record { inside = omega arith; few = omega arith; early = omega arith; going = rw e (whole s) }
 
-not-task : (g : ℕ) (t : Table) (line : ℕ) (s : List ℕ) (x : TaskOrEndLine) → taskOrEndLine (t .n) s ≡ x → ((v e : ℕ) → x ≡ TaskTaken v e → ⊥) → tasksOn g t line s ≡ frameThen x t line (length s) (λ v e. refusedRecord WrongFrame line)
+not-task : (g : ℕ) (t : Table) (line : ℕ) (s : List ℕ) (x : TaskOrEndLine) → taskOrEndLine (t .n) s ≡ x → ((v e : ℕ) → x ≡ TaskTaken v e → ⊥)
+    → tasksOn g t line s ≡ frameThen x t line (length s) (λ v e. refusedRecord WrongFrame line)
 unfolding tasksOn
 not-task zero t line s x q n = rw q
 not-task (suc g) t line s (TaskTaken v e) q n = absurd (n v e refl)
@@ -76,7 +77,8 @@ pub record TaskFacts (s : List ℕ) (t : Table) (at line v e : ℕ) : Type 0 whe
   pub left : t .n < mostTasks
   pub early : line ≤ 1 + mostLines * t .n
 
-pub task-facts : {s : List ℕ} {t : Table} {at line v e : ℕ} {x : TaskOrEndLine} → FrameTurn s t at line x → x ≡ TaskTaken v e → TaskFacts s t at line v e
+pub task-facts : {s : List ℕ} {t : Table} {at line v e : ℕ} {x : TaskOrEndLine} → FrameTurn s t at line x → x ≡ TaskTaken v e
+    → TaskFacts s t at line v e
 task-facts {s} {t} {at} {line} {v} {e} f q =
     let h : TaskHas (t .n) v e (drop at s) = task-has (t .n) v e (drop at s) (frame-here f ∙ q) in
     record { fits = omega (arith, h .long, length-drop at s, f .turn .inside); v-in = h .bounds .v-in; e-in = h .bounds .e-in; left = h .fits; early = f .turn .early }

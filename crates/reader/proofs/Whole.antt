@@ -43,10 +43,12 @@ more-left ts n (b ∷ u) h = go (eqb b lineFeed) refl
     go true e = simp e
     go false e = simp e (into-some ts n b (linesOf u))
 
-end-run : (ts : Meant.Table) (line : ℕ) (t : List ℕ) → endDigits < length t → frameThen EndTaken (tableRecord ts) line (length t) (λ v e. refusedRecord WrongFrame line) ≡ readingRecord (atEnd ts (suc line) (linesOf (drop endBytes t)))
+end-run : (ts : Meant.Table) (line : ℕ) (t : List ℕ) → endDigits < length t
+    → frameThen EndTaken (tableRecord ts) line (length t) (λ v e. refusedRecord WrongFrame line) ≡ readingRecord (atEnd ts (suc line) (linesOf (drop endBytes t)))
 end-run ts line t h = go (eqb (length t) endBytes) refl
   where
-    go : (x : Bool) → eqb (length t) endBytes ≡ x → frameThen EndTaken (tableRecord ts) line (length t) (λ v e. refusedRecord WrongFrame line) ≡ readingRecord (atEnd ts (suc line) (linesOf (drop endBytes t)))
+    go : (x : Bool) → eqb (length t) endBytes ≡ x
+        → frameThen EndTaken (tableRecord ts) line (length t) (λ v e. refusedRecord WrongFrame line) ≡ readingRecord (atEnd ts (suc line) (linesOf (drop endBytes t)))
     go true e =
         let k : length t ≤ endBytes = omega (arith, eqb-true (length t) endBytes e) in
         let d : drop endBytes t ≡ [] = drop-of-length-le t k in
@@ -62,7 +64,8 @@ end-run ts line t h = go (eqb (length t) endBytes) refl
 abbrev state : List Meant.Task → List Meant.Vertex → List Meant.Edge → Begun
 state ts X E = begun ts (Meant.task X E) 0 0
 
-closed-some : (ts : List Meant.Task) (X : List Meant.Vertex) (E : List Meant.Edge) → 0 < length X → closed (state ts X E) ≡ ts ++ (Meant.task X E ∷ [])
+closed-some : (ts : List Meant.Task) (X : List Meant.Vertex) (E : List Meant.Edge) → 0 < length X
+    → closed (state ts X E) ≡ ts ++ (Meant.task X E ∷ [])
 closed-some ts [] E h = absurd (omega arith)
 closed-some ts (x ∷ X) E h = refl
 
@@ -74,7 +77,8 @@ module _ (g : ℕ) (ih : Going g) (ts : List Meant.Task) (line v e : ℕ) (t : L
   abbrev behind : List ℕ
   behind = drop ((v + e) * partBytes) (drop taskBytes t)
 
-  with-task : (R : Text.Reading) (a : TaskLines) → TaskGives R ts (suc line) v e behind a → linesThen (a .outcome) (line + 1 + a .count) (tasksOn g (putTask (tableRecord ts) (a .task)) (line + 1 + v + e) (drop (taskBytes + (v + e) * partBytes) t)) ≡ readingRecord R
+  with-task : (R : Text.Reading) (a : TaskLines) → TaskGives R ts (suc line) v e behind a
+      → linesThen (a .outcome) (line + 1 + a .count) (tasksOn g (putTask (tableRecord ts) (a .task)) (line + 1 + v + e) (drop (taskBytes + (v + e) * partBytes) t)) ≡ readingRecord R
   with-task R a (task-stopped w i q) =
       let o : suc line + i ≡ line + 1 + i = omega arith in
       simp (q, refusal-of-number, o)
@@ -96,10 +100,12 @@ module _ (ts : List Meant.Task) (X : List Meant.Vertex) (E : List Meant.Edge) (l
   abbrev task : ℕ → ℕ → Text.Reading
   task v e = readFrom (begun have (Meant.task [] []) v e) (suc line) (linesOf (drop taskBytes t))
 
-  frame-run : (K : ℕ → ℕ → Reading) → ((v e : ℕ) → taskOrEndLine (length have) t ≡ TaskTaken v e → K v e ≡ readingRecord (task v e)) → frameThen (taskOrEndLine (length have) t) (tableRecord have) line (length t) K ≡ readingRecord (readFrom (state ts X E) line (linesOf t))
+  frame-run : (K : ℕ → ℕ → Reading) → ((v e : ℕ) → taskOrEndLine (length have) t ≡ TaskTaken v e → K v e ≡ readingRecord (task v e))
+      → frameThen (taskOrEndLine (length have) t) (tableRecord have) line (length t) K ≡ readingRecord (readFrom (state ts X E) line (linesOf t))
   frame-run K h = go (taskOrEndLine (length have) t) refl ∙ ap readingRecord (sym (task-or-end-read ts X E line t))
     where
-      go : (x : TaskOrEndLine) → taskOrEndLine (length have) t ≡ x → frameThen (taskOrEndLine (length have) t) (tableRecord have) line (length t) K ≡ readingRecord (frameGives (taskOrEndLine (length have) t) line task (atEnd have (suc line) (linesOf (drop endBytes t))))
+      go : (x : TaskOrEndLine) → taskOrEndLine (length have) t ≡ x
+          → frameThen (taskOrEndLine (length have) t) (tableRecord have) line (length t) K ≡ readingRecord (frameGives (taskOrEndLine (length have) t) line task (atEnd have (suc line) (linesOf (drop endBytes t))))
       go (FrameRefused w) q = simp (q, refusal-of-number)
       go EndTaken q = simp q (end-run have line t (end-long (length have) t q))
       go (TaskTaken v e) q = simp q (h v e q)

@@ -25,7 +25,8 @@ last-snoc (a ∷ b ∷ es) x y = last-snoc (b ∷ es) x y
 order : (g u f t : ℕ) → u < 256 → t < 256 → ltb g f || (eqb g f && ltb u t) ≡ edgeAfter (leastAfter g u) f t
 order g u f t a b = go (ltb g f) refl (eqb g f) refl (ltb u t) refl
   where
-    go : (x : Bool) → ltb g f ≡ x → (y : Bool) → eqb g f ≡ y → (z : Bool) → ltb u t ≡ z → ltb g f || (eqb g f && ltb u t) ≡ edgeAfter (leastAfter g u) f t
+    go : (x : Bool) → ltb g f ≡ x → (y : Bool) → eqb g f ≡ y → (z : Bool) → ltb u t ≡ z
+        → ltb g f || (eqb g f && ltb u t) ≡ edgeAfter (leastAfter g u) f t
     go true p y q z r = simp (p, le-leb (leastAfter g u) (edgePlace f t) (omega (arith, ltb-true g f p)))
     go false p true q true r = simp (p, q, r, le-leb (leastAfter g u) (edgePlace f t) (omega (arith, eqb-true g f q, ltb-true u t r)))
     go false p true q false r = simp (p, q, r, lt-leb (leastAfter g u) (edgePlace f t) (omega (arith, eqb-true g f q, ltb-false u t r)))

@@ -1,33 +1,32 @@
-use Rattle.digits.proofs.Counting.{count-end, count-feed, count-one, count-high, count-low, count-more}
-use Rattle.digits.specs.Digits.{frameAt, digitCount}
-use lib.ListN.{length, drop}
-use Prim.Native.Nat.{_≤_, _-_}
-use mathlib.Core.Path.{_≡_, refl, _∙_}
-use native.Mathlib.Omega.{arith}
+use Rattle.digits.proofs.Counting.{Counted, count-first, count-end, count-feed, count-one, count-high, count-low, count-more}
+use lib.ListN.{length}
+use Prim.Native.Nat.{_-_}
 use borrow.Author.Needs.{needs}
 use Rattle.digits.proofs.line_digits.Statement.{statement}
 use Rattle.digits.proofs.line_digits.Tie as tie
 
 abbrev Inv-loop : tie.InvT-loop
-Inv-loop w text i₀ i = (i ≤ length text) × (digitCount i (frameAt (drop i text)) ≡ digitCount 0 (frameAt text))
+Inv-loop w text i₀ i = Counted text i
 
 abbrev μ-loop : tie.MeasureT-loop
 μ-loop w text i₀ i = length text - i
 
 loop-holds : tie.Need-loop-holds Inv-loop μ-loop
-loop-holds c = (search needs, refl)
+loop-holds c = count-first (c .before .args .text .now)
 
 shared-slice-read-if1 : tie.Need-shared-slice-read-if1 Inv-loop μ-loop
 shared-slice-read-if1 c = search needs
 
 returns : tie.Need-returns Inv-loop μ-loop
-returns c = count-feed (c .before .before .before .before .before .args .text .now) (c .before .before .before .loop .i) (c .before .before .loop-test .taken) (c .if1 .taken) ∙ (c .before .before .before .loop .inv .1)
+returns c = count-feed (c .before .before .before .loop .inv) (c .before .before .loop-test .taken) (c .if1 .taken)
 
 sub-if2 : tie.Need-sub-if2 Inv-loop μ-loop
 sub-if2 c = search needs
 
 returns-2 : tie.Need-returns-2 Inv-loop μ-loop
-returns-2 c = count-one (c .before .before .before .before .before .before .args .text .now) (c .before .before .before .before .loop .i) (c .before .before .before .loop-test .taken) (c .before .if1 .left) (c .if2 .taken) ∙ (c .before .before .before .before .loop .inv .1)
+returns-2 c =
+    let test = c .before .before .before in
+    count-one (test .before .loop .inv) (test .loop-test .taken) (c .before .if1 .left) (c .if2 .taken)
 
 shared-slice-read-worth : tie.Need-shared-slice-read-worth Inv-loop μ-loop
 shared-slice-read-worth c = search needs
@@ -36,7 +35,10 @@ worth-requires : tie.Need-worth-requires Inv-loop μ-loop
 worth-requires c κs = search needs
 
 returns-3 : tie.Need-returns-3 Inv-loop μ-loop
-returns-3 c = count-high (c .before .before .before .before .before .before .before .before .before .args .text .now) (c .before .before .before .before .before .before .before .loop .i) (omega (arith, (c .before .before .before .if2 .left))) (c .before .before .before .before .if1 .left) (omega (arith, (c .before .worth .ensures))) ∙ (c .before .before .before .before .before .before .before .loop .inv .1)
+returns-3 c =
+    let odd = c .before .before .before in
+    let test = odd .before .before .before in
+    count-high (test .before .loop .inv) (test .loop-test .taken) (odd .before .if1 .left) (odd .if2 .left) (c .before .worth .ensures) (c .if3 .taken)
 
 add-worth : tie.Need-add-worth Inv-loop μ-loop
 add-worth c = search needs
@@ -48,7 +50,10 @@ worth-requires-2 : tie.Need-worth-requires-2 Inv-loop μ-loop
 worth-requires-2 c κs = search needs
 
 returns-4 : tie.Need-returns-4 Inv-loop μ-loop
-returns-4 c = count-low (c .before .before .before .before .before .before .before .before .before .before .before .before .args .text .now) (c .before .before .before .before .before .before .before .before .before .before .loop .i) (omega (arith, (c .before .before .before .before .before .before .if2 .left))) (c .before .before .before .before .before .before .before .if1 .left) (omega (arith, (c .before .worth2 .ensures))) ∙ (c .before .before .before .before .before .before .before .before .before .before .loop .inv .1)
+returns-4 c =
+    let odd = c .before .before .before .before .before .before in
+    let test = odd .before .before .before in
+    count-low (test .before .loop .inv) (test .loop-test .taken) (odd .before .if1 .left) (odd .if2 .left) (c .before .worth2 .ensures) (c .if4 .taken)
 
 add-i : tie.Need-add-i Inv-loop μ-loop
 add-i c = search needs
@@ -57,10 +62,15 @@ loop-less : tie.Need-loop-less Inv-loop μ-loop
 loop-less c = search needs
 
 loop-again : tie.Need-loop-again Inv-loop μ-loop
-loop-again c = (omega (arith, (c .before .before .before .before .before .before .if2 .left)), count-more (c .before .before .before .before .before .before .before .before .before .before .before .before .args .text .now) (c .before .before .before .before .before .before .before .before .before .before .loop .i) (omega (arith, (c .before .before .before .before .before .before .if2 .left))) (c .before .before .before .before .before .before .before .if1 .left) (omega (arith, (c .before .before .before .before .worth .ensures))) (omega (arith, (c .before .worth2 .ensures))) ∙ (c .before .before .before .before .before .before .before .before .before .before .loop .inv .1))
+loop-again c =
+    let high = c .before .before .before in
+    let odd = high .before .before .before in
+    let test = odd .before .before .before in
+    count-more (test .before .loop .inv) (test .loop-test .taken) (odd .before .if1 .left) (odd .if2 .left)
+    (high .before .worth .ensures) (high .if3 .left) (c .before .worth2 .ensures) (c .if4 .left)
 
 returns-5 : tie.Need-returns-5 Inv-loop μ-loop
-returns-5 c = count-end (c .before .before .before .args .text .now) (c .before .loop .i) (c .loop-test .left) ∙ (c .before .loop .inv .1)
+returns-5 c = count-end (c .before .loop .inv) (c .loop-test .left)
 
 pub line-digits-spec : {M : Type 1} → statement M
 line-digits-spec =

@@ -22,10 +22,16 @@ worth-requires-2 : tie.Need-worth-requires-2
 worth-requires-2 c κs = search needs
 
 mul-result : tie.Need-mul-result
-mul-result c = omega (arith, foreign-above .bits, worth-most (getD (c .before .before .before .before .before .args .text .now) (c .before .before .before .before .before .args .i) 0))
+mul-result c =
+    let most = worth-most (getD (c .before .before .before .before .before .args .text .now) (c .before .before .before .before .before .args .i) 0) in
+    omega (arith, foreign-above .bits, most)
 
 add-result : tie.Need-add-result
-add-result c = omega (arith, foreign-above .bits, worth-most (getD (c .before .before .before .before .before .args .text .now) (c .before .before .before .before .before .args .i) 0), worth-most (getD (c .before .before .before .before .before .args .text .now) ((c .before .before .before .before .before .args .i) + 1) 0))
+add-result c =
+    let a = c .before .before .before .before .before .args in
+    let high = worth-most (getD (a .text .now) (a .i) 0) in
+    let low = worth-most (getD (a .text .now) (a .i + 1) 0) in
+    omega (arith, foreign-above .bits, high, low)
 
 returns : tie.Need-returns
 returns c = search needs

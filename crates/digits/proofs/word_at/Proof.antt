@@ -18,7 +18,9 @@ mul-result : tie.Need-mul-result
 mul-result c = omega (arith, foreign-above .bits, pair-most (c .before .before .before .args .text .now) (c .before .before .before .args .i))
 
 add-result : tie.Need-add-result
-add-result c = omega (arith, foreign-above .bits, pair-most (c .before .before .before .args .text .now) (c .before .before .before .args .i), pair-most (c .before .before .before .args .text .now) ((c .before .before .before .args .i) + 2))
+add-result c =
+    let a = c .before .before .before .args in
+    omega (arith, foreign-above .bits, pair-most (a .text .now) (a .i), pair-most (a .text .now) (a .i + 2))
 
 returns : tie.Need-returns
 returns c = search needs

@@ -44,9 +44,7 @@ fault-requires : tie.Need-fault-requires
 fault-requires c κs = search needs
 
 returns : tie.Need-returns
-returns c =
-    let a = c .before .before .before .before .args in
-    edge-kind (a .n) (a .t4) (a .least) (a .text .now) (failed (c .before .before .starts .ensures) (c .before .if1 .taken)) (c .fault .ensures)
+returns c = edge-kind _ _ _ _ (failed (c .before .before .starts .ensures) (c .before .if1 .taken)) (c .fault .ensures)
 
 pair-at-requires : tie.Need-pair-at-requires
 pair-at-requires c κs = (omega (arith, long c), c .before .before .before .pre .1)

@@ -16,7 +16,10 @@ edges : (c : tie.After-read-edges) →
     let first = c .before .before .before .before in
     let a = first .before .before .args in
     EdgesSeen (a .text .now) (a .from) (a .v) (a .e) (first .read-vertices .result) (c .read-edges .result)
-edges c = record { vertices = vertices (c .before .before .before .before); all = c .before .before .enum-told .given .1; gives = c .read-edges .ensures }
+edges c =
+    let at-enum-told = c .before .before in
+    let at-place = at-enum-told .before .before in
+    record { vertices = vertices (at-place); all = at-enum-told .enum-told .given .1; gives = c .read-edges .ensures }
 
 read-vertices-requires : tie.Need-read-vertices-requires
 read-vertices-requires c κs = search needs
@@ -28,7 +31,11 @@ stopped-requires : tie.Need-stopped-requires
 stopped-requires c κs = search needs
 
 returns : tie.Need-returns
-returns c = (c .stopped .ensures) ∙ task-vertex-stops (vertices (c .before .before .before .before)) (c .before .before .before .before .before .before .args .e) (c .before .before .first .given .1)
+returns c =
+    let at-first = c .before .before in
+    let at-place = at-first .before .before in
+    let at-args = at-place .before .before in
+    (c .stopped .ensures) ∙ task-vertex-stops (vertices (at-place)) (at-args .args .e) (at-first .first .given .1)
 
 enum-told : tie.Need-enum-told
 enum-told c = search needs
@@ -40,7 +47,10 @@ add-read-edges : tie.Need-add-read-edges
 add-read-edges c = omega (arith, vertices-fit (vertices (c .before .before .before)) (c .before .enum-told .given .1))
 
 read-edges-requires : tie.Need-read-edges-requires
-read-edges-requires c κs = (vertices-fit (vertices (c .before .before .before)) (c .before .enum-told .given .1), (c .before .before .before .before .before .pre .1), (c .before .before .before .before .before .pre .2), (c .before .before .before .before .before .pre .3))
+read-edges-requires c κs =
+    let at-place = c .before .before .before in
+    let at-pre = at-place .before .before in
+    (vertices-fit (vertices (at-place)) (c .before .enum-told .given .1), (at-pre .pre .1), (at-pre .pre .2), (at-pre .pre .3))
 
 enum-known-second : tie.Need-enum-known-second
 enum-known-second c = search needs
@@ -52,7 +62,10 @@ stopped-requires-2 : tie.Need-stopped-requires-2
 stopped-requires-2 c κs = search needs
 
 returns-2 : tie.Need-returns-2
-returns-2 c = (c .stopped2 .ensures) ∙ task-edge-stops (edges (c .before .before .before .before .before)) (c .before .before .before .second .given .1)
+returns-2 c =
+    let at-second = c .before .before .before in
+    let at-place = at-second .before .before in
+    (c .stopped2 .ensures) ∙ task-edge-stops (edges (at-place)) (at-second .second .given .1)
 
 enum-told-2 : tie.Need-enum-told-2
 enum-told-2 c = search needs
@@ -64,7 +77,10 @@ add-t15 : tie.Need-add-t15
 add-t15 c = search needs
 
 returns-3 : tie.Need-returns-3
-returns-3 c = ap (tookTask AllTaken _) (c .task-of .ensures) ∙ task-all (edges (c .before .before .before .before)) (c .before .before .enum-told2 .given .1)
+returns-3 c =
+    let at-enum-told2 = c .before .before in
+    let at-place = at-enum-told2 .before .before in
+    ap (tookTask AllTaken _) (c .task-of .ensures) ∙ task-all (edges (at-place)) (at-enum-told2 .enum-told2 .given .1)
 
 pub read-task-spec : {M : Type 1} → statement M
 read-task-spec =
