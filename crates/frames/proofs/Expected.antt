@@ -29,8 +29,12 @@ same-pick false a = refl
 
 -- ---- the refusal of a line
 
+-- how a right line of the bytes f is refused that should have n digits
+abbrev pub rightFault : List ℕ → ℕ → Refusal → Refusal
+rightFault f n w = pick (eqb (digitCount 0 (some f)) n) w WrongFrame
+
 pub fault-law : (s : Begun) (n N : ℕ) (w : Refusal) (t : List ℕ)
-    → ((b : ℕ) (f r : List ℕ) → Spelled t (b ∷ f) r → framed s (wantedBy (s .wantV) (s .wantE)) (b ∷ f) ≡ wrong (refusalNumber (pick (eqb (digitCount 0 (some (b ∷ f))) N) w WrongFrame)))
+    → ((b : ℕ) (f r : List ℕ) → Spelled t (b ∷ f) r → framed s (wantedBy (s .wantV) (s .wantE)) (b ∷ f) ≡ wrong (refusalNumber (rightFault (b ∷ f) N w)))
     → readFrom s n (linesOf t) ≡ unreadable (refusalNumber (faultOf t N w)) n
 unfolding faultOf
 fault-law s n N w [] h = refl
@@ -107,11 +111,11 @@ module _ (κ : ℕ) (low : κ < 10) where
   -- where the rest of an expected line fails
   pub fails : {t f r : List ℕ} {b : ℕ} (m : ℕ) (w : Refusal) (x : Step) → Spelled t (b ∷ f) r → Starts t (κ + 48) (2 * m)
       → (isFrame κ m (b ∷ f) ≡ true → x ≡ wrong (refusalNumber w))
-      → pick (isFrame κ m (b ∷ f)) x (wrong 2) ≡ wrong (refusalNumber (pick (eqb (digitCount 0 (some (b ∷ f))) (2 * m)) w WrongFrame))
+      → pick (isFrame κ m (b ∷ f)) x (wrong 2) ≡ wrong (refusalNumber (rightFault (b ∷ f) (2 * m) w))
   fails {t} {f} {r} {b} m w x z s h = go (isFrame κ m (b ∷ f)) refl
     where
       go : (y : Bool) → isFrame κ m (b ∷ f) ≡ y
-          → pick (isFrame κ m (b ∷ f)) x (wrong 2) ≡ wrong (refusalNumber (pick (eqb (digitCount 0 (some (b ∷ f))) (2 * m)) w WrongFrame))
+          → pick (isFrame κ m (b ∷ f)) x (wrong 2) ≡ wrong (refusalNumber (rightFault (b ∷ f) (2 * m) w))
       go true q =
           let l : length (b ∷ f) ≡ m = frame-long κ m (b ∷ f) q in
           simp (q, eq-eqb (digitCount 0 (some (b ∷ f))) (2 * m) (omega arith)) (h q)

@@ -91,7 +91,9 @@ module _ (ts : List Meant.Task) (X : List Meant.Vertex) (E : List Meant.Edge) (n
   not-task p = go (startsWith t 48 endDigits) refl (eqb (length have) 0) refl
     where
       go : (x : Bool) → startsWith t 48 endDigits ≡ x → (y : Bool) → eqb (length have) 0 ≡ y → Reads
-      go false q y g = simp (p, q) (fault-law before n endDigits WrongFrame t (λ b f r z. simp (not-frame 1 (omega arith) 3 z p, not-frame 0 (omega arith) 1 z q, same-pick)))
+      go false q y g =
+          simp (p, q) (fault-law before n endDigits WrongFrame t (λ b f r z.
+          simp (not-frame 1 (omega arith) 3 z p, not-frame 0 (omega arith) 1 z q, same-pick)))
       go true q true g = end-framed q ∙ simp (p, q, g, le-ltb 0 (length have) (omega (arith, eqb-true (length have) 0 g)))
       go true q false g = end-framed q ∙ simp (p, q, g, lt-ltb 0 (length have) (less (eqb-false (length have) 0 g)))
         where
@@ -105,12 +107,14 @@ module _ (ts : List Meant.Task) (X : List Meant.Vertex) (E : List Meant.Edge) (n
       go : (x : Bool) → startsWith t 49 taskDigits ≡ x → (y : Bool) → few ≡ y → (u : Bool) → inside ≡ u → Reads
       go false p y q u g = not-task p
       go true p true q u g =
-          simp (p, q) (fault-law before n taskDigits WrongFrame t (λ b f r z. simp (le-ltb (length have) mostTasks (leb-true mostTasks (length have) q), and-false, not-end z p, same-pick)))
+          simp (p, q) (fault-law before n taskDigits WrongFrame t (λ b f r z.
+          simp (le-ltb (length have) mostTasks (leb-true mostTasks (length have) q), and-false, not-end z p, same-pick)))
       go true p false q true g = simp (p, q, g) (task-right p q g)
       go true p false q false g =
           simp (p, q, g) (fault-law before n taskDigits OutOfBounds t (λ b f r z.
           simp (lt-ltb (length have) mostTasks (leb-false mostTasks (length have) q), and-true, not-end z p)
-          (fails 1 (omega arith) 3 OutOfBounds (taskFrame before (getD (b ∷ f) 1 0) (getD (b ∷ f) 2 0)) z (starts-says t 49 taskDigits p) (λ i. task-wrong z i g))))
+          (let step = taskFrame before (getD (b ∷ f) 1 0) (getD (b ∷ f) 2 0) in
+          fails 1 (omega arith) 3 OutOfBounds step z (starts-says t 49 taskDigits p) (λ i. task-wrong z i g))))
 
 -- ---- what a line that is taken has
 
@@ -146,7 +150,8 @@ module _ (k v e : ℕ) (t : List ℕ) where
           let x : taskVertices t ≡ v = cc in
           let y : taskEdges t ≡ e = cc in
           let m : TaskBounds (taskVertices t) (taskEdges t) = task-bounds (taskVertices t) (taskEdges t) u in
-          record { long = starts-says t 49 taskDigits p .long; fits = leb-false mostTasks k q; bounds = record { some = omega arith; v-in = omega arith; e-in = omega arith } }
+          let inside : TaskBounds v e = record { some = omega arith; v-in = omega arith; e-in = omega arith } in
+          record { long = starts-says t 49 taskDigits p .long; fits = leb-false mostTasks k q; bounds = inside }
 
 abbrev isEnd : TaskOrEndLine → Bool
 isEnd (TaskTaken v e) = false

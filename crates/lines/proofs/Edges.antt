@@ -38,7 +38,9 @@ module _ (ts : List Meant.Task) (X : List Meant.Vertex) (l m : ℕ) (room : leng
   at E k n t = readFrom (begun ts (Meant.task X E) 0 k) n (linesOf t)
 
   abbrev Runs : ℕ → List Meant.Edge → ℕ → List ℕ → Type 0
-  Runs k E least t = EdgesGive (at E k (l + length E) t) ts X l m (drop (k * partBytes) t) (edgesOn (length X) (verticesRecord X) (length E) (edgesRecord E) least k t)
+  Runs k E least t =
+      EdgesGive (at E k (l + length E) t) ts X l m (drop (k * partBytes) t)
+      (edgesOn (length X) (verticesRecord X) (length E) (edgesRecord E) least k t)
 
   pub edges-run : (k : ℕ) (E : List Meant.Edge) (least : ℕ) (t : List ℕ) → Follows E least → length E + k ≡ m → Runs k E least t
   unfolding edgesOn
@@ -54,20 +56,24 @@ module _ (ts : List Meant.Task) (X : List Meant.Vertex) (l m : ℕ) (room : leng
           let a : length F ≡ length E + 1 = length-append E (edgeOf x ∷ []) in
           let b : set (edgesRecord E) (length E) x ≡ edgesRecord F = padded-set mostEdges noEdge edgeRecord E (edgeOf x) (omega arith) in
           let c : drop (k * partBytes) (drop partBytes t) ≡ drop (suc k * partBytes) t = drop-part k t in
-          let d : at E (suc k) (l + length E) t ≡ at F k (l + length F) (drop partBytes t) = edge-read ts X E k (l + length E) least t room h ∙ rw q (ap (λ (z : ℕ). at F k z (drop partBytes t)) (let o : suc (l + length E) ≡ l + length F = omega arith in o)) in
-          rw (q, d, ← c, b, ← a) (ih F (leastAfter (x .from .0) (x .to .0)) (drop partBytes t) (follows-more E (edgeOf x) (omega arith)) (omega arith))
+          let s = drop partBytes t in
+          let o : suc (l + length E) ≡ l + length F = omega arith in
+          let on : at E (suc k) (l + length E) t ≡ at F k (suc (l + length E)) s = edge-read ts X E k (l + length E) least t room h ∙ rw q in
+          let d : at E (suc k) (l + length E) t ≡ at F k (l + length F) s = on ∙ ap (λ (z : ℕ). at F k z s) o in
+          rw (q, d, ← c, b, ← a) (ih F (leastAfter (x .from .0) (x .to .0)) s (follows-more E (edgeOf x) (omega arith)) (omega arith))
 
 -- ---- how far they reach
 
 module _ (n : ℕ) (vs : List Vertex) where
-  pub edges-reach : (i : ℕ) (es : List Edge) (least k : ℕ) (t : List ℕ)
-      → Reach i k t (edgesOn n vs i es least k t .count) (edgesOn n vs i es least k t .outcome)
+  abbrev Reaches : ℕ → List Edge → ℕ → ℕ → List ℕ → Type 0
+  Reaches i es least k t = Reach i k t (edgesOn n vs i es least k t .count) (edgesOn n vs i es least k t .outcome)
+
+  pub edges-reach : (i : ℕ) (es : List Edge) (least k : ℕ) (t : List ℕ) → Reaches i es least k t
   unfolding edgesOn
   edges-reach i es least zero t = reach-none i t AllTaken
   edges-reach i es least (suc k) t = go (edgeLine n vs least t) refl (λ x z. edges-reach (i + 1) (set es i x) z k (drop partBytes t))
     where
       go : (x : EdgeLine) → edgeLine n vs least t ≡ x
-          → ((y : Edge) (z : ℕ) → Reach (i + 1) k (drop partBytes t) (edgesOn n vs (i + 1) (set es i y) z k (drop partBytes t) .count) (edgesOn n vs (i + 1) (set es i y) z k (drop partBytes t) .outcome))
-          → Reach i (suc k) t (edgesOn n vs i es least (suc k) t .count) (edgesOn n vs i es least (suc k) t .outcome)
+          → ((y : Edge) (z : ℕ) → Reaches (i + 1) (set es i y) z k (drop partBytes t)) → Reaches i es least (suc k) t
       go (EdgeRefused w) q ih = rw q (reach-stopped i (suc k) t w)
       go (EdgeTaken x) q ih = rw q (reach-more i k t _ _ (edge-has n vs least t x q .long) (ih x (leastAfter (x .from .0) (x .to .0))))

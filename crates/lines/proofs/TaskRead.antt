@@ -68,9 +68,10 @@ module _ (ts : List Meant.Task) (l v e : ℕ) (t : List ℕ) (v-in : v ≤ mostV
       let b : edgesOn (length Y) (verticesRecord Y) 0 (edgesRecord []) 0 e s ≡ edgeLines v (verticesRecord Y) e s = rw (ly, no-edges) in
       let o : l + length Y + 0 ≡ l + length Y = omega arith in
       let r : R′ ≡ R = rw o (sym q) in
-      let run : EdgesGive R′ ts Y (l + length Y) e (drop (e * partBytes) s) (edgeLines v (verticesRecord Y) e s) = subst (λ (x : EdgeLines). EdgesGive R′ ts Y (l + length Y) e (drop (e * partBytes) s) x) b (edges-run ts Y (l + length Y) e (omega arith) e-in e [] 0 s follows-none (omega arith)) in
-      subst (λ (x : Reading). TaskGives x ts l v e rest (taskWith v e (tookVertices AllTaken (length Y) (verticesRecord Y)) (edgeLines v (verticesRecord Y) e s))) r
-      (with-edges R′ Y (edgeLines v (verticesRecord Y) e s) ly run)
+      let both = taskWith v e (tookVertices AllTaken (length Y) (verticesRecord Y)) (edgeLines v (verticesRecord Y) e s) in
+      let run : EdgesGive R′ ts Y (l + length Y) e (drop (e * partBytes) s) (edgeLines v (verticesRecord Y) e s) =
+      rw (sym b) (edges-run ts Y (l + length Y) e (omega arith) e-in e [] 0 s follows-none (omega arith)) in
+      subst (λ (x : Reading). TaskGives x ts l v e rest both) r (with-edges R′ Y (edgeLines v (verticesRecord Y) e s) ly run)
 
   pub task-run : TaskGives (readFrom (begun ts (Meant.task [] []) v e) l (linesOf t)) ts l v e rest (taskLines v e t)
   unfolding taskLines
@@ -87,7 +88,10 @@ reach-stops n m t c w h k = record { few = omega arith; room = λ e. absurd (let
 
 pub task-reach : (v e : ℕ) (t : List ℕ) → Reach 0 (v + e) t (taskLines v e t .count) (taskLines v e t .outcome)
 unfolding taskLines
-task-reach v e t = go (a .outcome) refl (b .outcome) refl (vertices-reach 0 (replicate mostVertices noVertex) v t) (edges-reach v (a .vertices) 0 (replicate mostEdges noEdge) 0 e (drop (v * partBytes) t))
+task-reach v e t =
+    go (a .outcome) refl (b .outcome) refl
+    (vertices-reach 0 (replicate mostVertices noVertex) v t)
+    (edges-reach v (a .vertices) 0 (replicate mostEdges noEdge) 0 e (drop (v * partBytes) t))
   where
     a : VertexLines
     a = vertexLines v t

@@ -143,7 +143,9 @@ module _ {s : List ℕ} {from v : ℕ} {a : VertexLines} (seen : VerticesSeen s 
 
 module _ {s : List ℕ} {from v e : ℕ} {a : VertexLines} {b : EdgeLines} (seen : EdgesSeen s from v e a b) where
   pub edges-few : b .count ≤ e
-  edges-few = subst (λ (y : EdgeLines). y .count ≤ e) (sym (seen .gives)) (omega (arith, edges-reach v (a .vertices) 0 (replicate mostEdges noEdge) 0 e (drop (from + v * partBytes) s) .few))
+  edges-few =
+      let reach = edges-reach v (a .vertices) 0 (replicate mostEdges noEdge) 0 e (drop (from + v * partBytes) s) in
+      subst (λ (y : EdgeLines). y .count ≤ e) (sym (seen .gives)) (omega (arith, reach .few))
 
   pub task-edge-stops : {w : Refusal} → b .outcome ≡ StoppedBy w → stoppedTask w (v + b .count) ≡ taskLines v e (drop from s)
   unfolding taskLines

@@ -49,18 +49,22 @@ module _ (ts : List Meant.Task) (ne l m : ℕ) where
           let a : length Y ≡ length X + 1 = length-append X (vertexOf x ∷ []) in
           let b : set (verticesRecord X) (length X) x ≡ verticesRecord Y = padded-set mostVertices noVertex vertexRecord X (vertexOf x) (omega arith) in
           let c : drop (k * partBytes) (drop partBytes t) ≡ drop (suc k * partBytes) t = drop-part k t in
-          let d : at X (suc k) (l + length X) t ≡ at Y k (l + length Y) (drop partBytes t) = vertex-read ts X [] k ne (l + length X) t ∙ rw q (ap (λ (z : ℕ). at Y k z (drop partBytes t)) (let o : suc (l + length X) ≡ l + length Y = omega arith in o)) in
-          rw (q, d, ← c, b, ← a) (ih Y (drop partBytes t) (omega arith))
+          let s = drop partBytes t in
+          let o : suc (l + length X) ≡ l + length Y = omega arith in
+          let on : at X (suc k) (l + length X) t ≡ at Y k (suc (l + length X)) s = vertex-read ts X [] k ne (l + length X) t ∙ rw q in
+          let d : at X (suc k) (l + length X) t ≡ at Y k (l + length Y) s = on ∙ ap (λ (z : ℕ). at Y k z s) o in
+          rw (q, d, ← c, b, ← a) (ih Y s (omega arith))
 
 -- ---- how far they reach
 
-pub vertices-reach : (i : ℕ) (vs : List Vertex) (k : ℕ) (t : List ℕ) → Reach i k t (verticesOn i vs k t .count) (verticesOn i vs k t .outcome)
+abbrev Reaches : ℕ → List Vertex → ℕ → List ℕ → Type 0
+Reaches i vs k t = Reach i k t (verticesOn i vs k t .count) (verticesOn i vs k t .outcome)
+
+pub vertices-reach : (i : ℕ) (vs : List Vertex) (k : ℕ) (t : List ℕ) → Reaches i vs k t
 unfolding verticesOn
 vertices-reach i vs zero t = reach-none i t AllTaken
 vertices-reach i vs (suc k) t = go (vertexLine t) refl (λ x. vertices-reach (i + 1) (set vs i x) k (drop partBytes t))
   where
-    go : (x : VertexLine) → vertexLine t ≡ x
-        → ((y : Vertex) → Reach (i + 1) k (drop partBytes t) (verticesOn (i + 1) (set vs i y) k (drop partBytes t) .count) (verticesOn (i + 1) (set vs i y) k (drop partBytes t) .outcome))
-        → Reach i (suc k) t (verticesOn i vs (suc k) t .count) (verticesOn i vs (suc k) t .outcome)
+    go : (x : VertexLine) → vertexLine t ≡ x → ((y : Vertex) → Reaches (i + 1) (set vs i y) k (drop partBytes t)) → Reaches i vs (suc k) t
     go (VertexRefused w) q ih = rw q (reach-stopped i (suc k) t w)
     go (VertexTaken x) q ih = rw q (reach-more i k t _ _ (vertex-long t x q) (ih x))

@@ -21,7 +21,12 @@ seen c =
     let e = c .before in
     let v = e .before in
     let start = v .before .before in
-    record { starts = held (start .before .starts .ensures) (start .if1 .left); fits = v .before .if2 .left; v-there = v .pair-at .ensures; e-there = e .pair-at2 .ensures }
+    record {
+      starts = held (start .before .starts .ensures) (start .if1 .left);
+      fits = v .before .if2 .left;
+      v-there = v .pair-at .ensures;
+      e-there = e .pair-at2 .ensures;
+    }
 
 starts-requires : tie.Need-starts-requires
 starts-requires c κs = search needs

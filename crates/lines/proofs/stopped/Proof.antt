@@ -1,6 +1,4 @@
-use Rattle.lines.specs.declared.Outcome.the-variants.{StoppedBy}
-use Rattle.lines.specs.declared.TaskLines.{TaskLines}
-use Rattle.table.specs.declared.Task.{Task}
+use Rattle.lines.specs.Parts.{tookTask}
 use mathlib.Core.Path.{ap}
 use borrow.Author.Needs.{needs}
 use Rattle.lines.proofs.stopped.Statement.{statement}
@@ -10,7 +8,7 @@ no-task-requires : tie.Need-no-task-requires
 no-task-requires c κs = search needs
 
 returns : tie.Need-returns
-returns c = ap {B = TaskLines} (λ (k : Task). record { outcome = StoppedBy (c .before .args .refusal); count = (c .before .args .count); task = k }) (c .no-task .ensures)
+returns c = ap (tookTask _ _) (c .no-task .ensures)
 
 pub stopped-spec : {M : Type 1} → statement M
 stopped-spec = tie.close (tie.spec no-task-requires returns)
