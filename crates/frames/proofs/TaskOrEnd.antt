@@ -43,9 +43,10 @@ not-end {t} {f} {r} {b} z p =
     let k : b ≡ 1 = kind-of 1 (omega arith) taskDigits z (starts-says t 49 taskDigits p) in
     simp (ne-eqb b 0 (λ (e : b ≡ 0). omega arith))
 
-module _ (ts : List Meant.Task) (X : List Meant.Vertex) (E : List Meant.Edge) (n : ℕ) (t : List ℕ) where
+-- the tasks ts and the task k are read
+module _ (ts : List Meant.Task) (k : Meant.Task) (n : ℕ) (t : List ℕ) where
   abbrev before : Begun
-  before = begun ts (Meant.task X E) 0 0
+  before = begun ts k 0 0
 
   abbrev have : List Meant.Task
   have = closed before

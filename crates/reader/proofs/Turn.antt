@@ -1,5 +1,5 @@
 -- One turn of the loop over a text's tasks. Assumes nothing.
-use mathlib.Core.Path.{_≡_, refl, sym, ap, subst, _∙_}
+use mathlib.Core.Path.{_≡_, refl, sym, ap, _∙_}
 use Prim.Native.Nat.{ℕ, zero, suc, _+_, _-_, _*_, _≤_, _<_}
 use native.Mathlib.Omega.{arith}
 use mathlib.Core.List.{List}
@@ -57,8 +57,12 @@ module _ {s : List ℕ} {t : Table} {at line : ℕ} {x : TaskOrEndLine} (f : Fra
   frame-here : taskOrEndLine (t .n) (drop at s) ≡ x
   frame-here = sym (f .gives ∙ ap (taskOrEndLine (t .n)) (lent-drop s at))
 
-  ended : ((v e : ℕ) → x ≡ TaskTaken v e → ⊥) → frameThen x t line (length s - at) (λ v e. refusedRecord WrongFrame line) ≡ readingRecord (read s)
-  ended n = sym (ap (λ (k : ℕ). frameThen x t line k (λ v e. refusedRecord WrongFrame line)) (length-drop at s)) ∙ sym (not-task (mostTasks - t .n) t line (drop at s) x frame-here n) ∙ f .turn .going
+  abbrev given : ℕ → Reading
+  given k = frameThen x t line k (λ v e. refusedRecord WrongFrame line)
+
+  ended : ((v e : ℕ) → x ≡ TaskTaken v e → ⊥) → given (length s - at) ≡ readingRecord (read s)
+  ended n =
+      sym (ap given (length-drop at s)) ∙ sym (not-task (mostTasks - t .n) t line (drop at s) x frame-here n) ∙ f .turn .going
 
   pub frame-refused : {w : Refusal} → x ≡ FrameRefused w → refusedRecord w line ≡ readingRecord (read s)
   frame-refused {w} q = sym (rw q) ∙ ended (λ v e z. let k : _≡_ {A = ℕ} 0 1 = cc in omega arith)
@@ -81,7 +85,13 @@ pub task-facts : {s : List ℕ} {t : Table} {at line v e : ℕ} {x : TaskOrEndLi
     → TaskFacts s t at line v e
 task-facts {s} {t} {at} {line} {v} {e} f q =
     let h : TaskHas (t .n) v e (drop at s) = task-has (t .n) v e (drop at s) (frame-here f ∙ q) in
-    record { fits = omega (arith, h .long, length-drop at s, f .turn .inside); v-in = h .bounds .v-in; e-in = h .bounds .e-in; left = h .fits; early = f .turn .early }
+    record {
+      fits = omega (arith, h .long, length-drop at s, f .turn .inside);
+      v-in = h .bounds .v-in;
+      e-in = h .bounds .e-in;
+      left = h .fits;
+      early = f .turn .early;
+    }
 
 -- the lines of the task are read
 pub record TaskTurn (s : List ℕ) (t : Table) (at line v e : ℕ) (a : TaskLines) : Type 0 where
@@ -93,13 +103,15 @@ module _ {s : List ℕ} {t : Table} {at line v e : ℕ} {a : TaskLines} (f : Tas
   facts = task-facts (f .frame) refl
 
   reach : Reach 0 (v + e) (drop (at + taskBytes) s) (a .count) (a .outcome)
-  reach = subst (λ (b : TaskLines). Reach 0 (v + e) (drop (at + taskBytes) s) (b .count) (b .outcome)) (sym (f .gives)) (task-reach v e (drop (at + taskBytes) s))
+  reach = rw (f .gives) (task-reach v e (drop (at + taskBytes) s))
 
   pub lines-few : a .count ≤ v + e
   lines-few = omega (arith, reach .few)
 
   abbrev after : TaskLines → Reading
-  after b = linesThen (b .outcome) (line + 1 + b .count) (tasksOn (mostTasks - (t .n + 1)) (putTask t (b .task)) (line + 1 + v + e) (drop (at + taskBytes + (v + e) * partBytes) s))
+  after b =
+      linesThen (b .outcome) (line + 1 + b .count)
+      (tasksOn (mostTasks - (t .n + 1)) (putTask t (b .task)) (line + 1 + v + e) (drop (at + taskBytes + (v + e) * partBytes) s))
 
   task-on : after a ≡ readingRecord (read s)
   unfolding tasksOn

@@ -13,21 +13,32 @@ Inv-loop text worths table₀ at₀ line₀ table at line = Turn text table at l
 abbrev μ-loop : tie.MeasureT-loop
 μ-loop text worths table₀ at₀ line₀ table at line = mostTasks - table .n
 
-frame : (c : tie.After-task-or-end-line Inv-loop μ-loop)
-    → FrameTurn (c .before .before .before .before .before .before .before .args .text .now) (c .before .before .before .loop .table) (c .before .before .before .loop .at) (c .before .before .before .loop .line) (c .task-or-end-line .result)
-frame c = record { turn = (c .before .before .before .loop .inv); gives = (c .task-or-end-line .ensures) }
+-- ---- the places on the way: a line is tested, it is a task's, the task's lines are read
 
-facts : (c : tie.After-known-told2 Inv-loop μ-loop)
-    → TaskFacts (c .before .before .before .before .before .before .before .before .before .before .args .text .now) (c .before .before .before .before .before .before .loop .table) (c .before .before .before .before .before .before .loop .at) (c .before .before .before .before .before .before .loop .line) (c .before .next2 .given .0 .0) (c .before .next2 .given .0 .1 .0)
+frame : (c : tie.After-task-or-end-line Inv-loop μ-loop) →
+    let l = c .before .before .before in
+    FrameTurn (l .before .before .before .before .args .text .now) (l .loop .table) (l .loop .at) (l .loop .line) (c .task-or-end-line .result)
+frame c = record { turn = c .before .before .before .loop .inv; gives = c .task-or-end-line .ensures }
+
+facts : (c : tie.After-known-told2 Inv-loop μ-loop) →
+    let counts = c .before .next2 .given .0 in
+    let l = c .before .before .before .before .before .before in
+    TaskFacts (l .before .before .before .before .args .text .now) (l .loop .table) (l .loop .at) (l .loop .line) (counts .0) (counts .1 .0)
 facts c = task-facts (frame (c .before .before .before)) (c .before .next2 .given .1)
 
-lines : (c : tie.After-read-task Inv-loop μ-loop)
-    → TaskTurn (c .before .before .before .before .before .before .before .before .before .before .before .before .args .text .now) (c .before .before .before .before .before .before .before .before .loop .table) (c .before .before .before .before .before .before .before .before .loop .at) (c .before .before .before .before .before .before .before .before .loop .line) (c .before .before .before .next2 .given .0 .0) (c .before .before .before .next2 .given .0 .1 .0) (c .read-task .result)
+lines : (c : tie.After-read-task Inv-loop μ-loop) →
+    let next = c .before .before .before in
+    let counts = next .next2 .given .0 in
+    let l = next .before .before .before .before .before in
+    let text = l .before .before .before .before .args .text .now in
+    TaskTurn text (l .loop .table) (l .loop .at) (l .loop .line) (counts .0) (counts .1 .0) (c .read-task .result)
 lines c =
-    let at-next2 = c .before .before .before in
-    let at-task-or-end-line = at-next2 .before .before in
-    let at-loop = at-task-or-end-line .before .before .before in
-    record { frame = record { turn = (at-loop .loop .inv); gives = sym (at-next2 .next2 .given .1) ∙ (at-task-or-end-line .task-or-end-line .ensures) }; gives = (c .read-task .ensures) }
+    let next = c .before .before .before in
+    let line = next .before .before in
+    record {
+      frame = record { turn = line .before .before .before .loop .inv; gives = sym (next .next2 .given .1) ∙ line .task-or-end-line .ensures };
+      gives = c .read-task .ensures;
+    }
 
 worths-requires : tie.Need-worths-requires Inv-loop μ-loop
 worths-requires c κs = search needs
@@ -90,7 +101,10 @@ add-read-task : tie.Need-add-read-task Inv-loop μ-loop
 add-read-task c = let f = facts (c .before) in omega arith
 
 read-task-requires : tie.Need-read-task-requires Inv-loop μ-loop
-read-task-requires c κs = let f = facts (c .before) in (omega arith, omega arith, omega arith, (c .before .before .before .before .before .before .before .before .before .worths .ensures))
+read-task-requires c κs =
+    let f = facts (c .before) in
+    let made = c .before .before .before .before .before .before .before .before .before in
+    (omega arith, omega arith, omega arith, made .worths .ensures)
 
 enum-known-outcome : tie.Need-enum-known-outcome Inv-loop μ-loop
 enum-known-outcome c = search needs
