@@ -15,7 +15,9 @@ pair-at-requires-2 : tie.Need-pair-at-requires-2
 pair-at-requires-2 c κs = search needs
 
 mul-result : tie.Need-mul-result
-mul-result c = omega (arith, foreign-above .bits, pair-most (c .before .before .before .args .text .now) (c .before .before .before .args .i))
+mul-result c =
+    let a = c .before .before .before .args in
+    omega (arith, foreign-above .bits, pair-most (a .text .now) (a .i), pair-most (a .text .now) (a .i + 2))
 
 add-result : tie.Need-add-result
 add-result c =
