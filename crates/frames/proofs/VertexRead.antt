@@ -63,7 +63,8 @@ module _ (ts : List Meant.Task) (vs : List Meant.Vertex) (es : List Meant.Edge) 
       go true p true q = simp (p, q) (vertex-right p q)
       go true p false q =
           simp (p, q) (fault-law before n partDigits OutOfBounds t (λ b f r z.
-          fails 2 (omega arith) 5 OutOfBounds (vertexFrame before (word (b ∷ f) 1) (word (b ∷ f) 3)) z (starts-says t 50 partDigits p) (λ i. vertex-wrong z i q)))
+          let step = vertexFrame before (word (b ∷ f) 1) (word (b ∷ f) 3) in
+          fails 2 (omega arith) 5 OutOfBounds step z (starts-says t 50 partDigits p) (λ i. vertex-wrong z i q)))
 
 -- a line that is taken has ten digits and a line feed
 pub vertex-long : (t : List ℕ) (x : Vertex) → vertexLine t ≡ VertexTaken x → partDigits < length t

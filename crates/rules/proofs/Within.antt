@@ -16,6 +16,11 @@ pub both-true : (a b : Bool) → a && b ≡ true → (a ≡ true) × (b ≡ true
 both-true true b e = (refl, e)
 both-true false b e = differ (sym e)
 
+within-bounds : (low high n : ℕ) → within low high n ≡ true → (low ≤ n) × (n ≤ high)
+within-bounds low high n h =
+    let b = both-true (leb low n) (leb n high) h in
+    (leb-true _ _ (b .0), leb-true _ _ (b .1))
+
 -- ---- each frame
 
 pub record TaskBounds (v e : ℕ) : Type 0 where
@@ -26,28 +31,34 @@ pub record TaskBounds (v e : ℕ) : Type 0 where
 pub task-bounds : (v e : ℕ) → taskIn v e ≡ true → TaskBounds v e
 unfolding taskIn
 task-bounds v e h =
-    let a : (within 1 mostVertices v ≡ true) × (leb e mostEdges ≡ true) = both-true (within 1 mostVertices v) (leb e mostEdges) h in
-    let b : (leb 1 v ≡ true) × (leb v mostVertices ≡ true) = both-true (leb 1 v) (leb v mostVertices) (a .0) in
-    record { some = leb-true _ _ (b .0); v-in = leb-true _ _ (b .1); e-in = leb-true _ _ (a .1) }
+    let a = both-true (within 1 mostVertices v) (leb e mostEdges) h in
+    let b = within-bounds 1 mostVertices v (a .0) in
+    record { some = b .0; v-in = b .1; e-in = leb-true _ _ (a .1) }
 
 pub record VertexBounds (e d : ℕ) : Type 0 where
+  pub some-e : 1 ≤ e
   pub e-in : e ≤ largestE
+  pub some-d : 1 ≤ d
   pub d-in : d ≤ largestD
 
 pub vertex-bounds : (e d : ℕ) → vertexIn e d ≡ true → VertexBounds e d
 unfolding vertexIn
 vertex-bounds e d h =
-    let a : (within 1 largestE e ≡ true) × (within 1 largestD d ≡ true) = both-true (within 1 largestE e) (within 1 largestD d) h in
-    record { e-in = leb-true _ _ (both-true (leb 1 e) (leb e largestE) (a .0) .1); d-in = leb-true _ _ (both-true (leb 1 d) (leb d largestD) (a .1) .1) }
+    let a = both-true (within 1 largestE e) (within 1 largestD d) h in
+    let b = within-bounds 1 largestE e (a .0) in
+    let c = within-bounds 1 largestD d (a .1) in
+    record { some-e = b .0; e-in = b .1; some-d = c .0; d-in = c .1 }
 
 pub record EdgeBounds (n from to p : ℕ) : Type 0 where
   pub from-in : from < n
   pub to-in : to < n
+  pub some-p : 1 ≤ p
   pub p-in : p ≤ largestP
 
 pub edge-bounds : (n from to p : ℕ) → edgeIn n from to p ≡ true → EdgeBounds n from to p
 unfolding edgeIn
 edge-bounds n from to p h =
-    let a : ((ltb from n && ltb to n) ≡ true) × (within 1 largestP p ≡ true) = both-true (ltb from n && ltb to n) (within 1 largestP p) h in
-    let b : (ltb from n ≡ true) × (ltb to n ≡ true) = both-true (ltb from n) (ltb to n) (a .0) in
-    record { from-in = ltb-true _ _ (b .0); to-in = ltb-true _ _ (b .1); p-in = leb-true _ _ (both-true (leb 1 p) (leb p largestP) (a .1) .1) }
+    let a = both-true (ltb from n && ltb to n) (within 1 largestP p) h in
+    let b = both-true (ltb from n) (ltb to n) (a .0) in
+    let c = within-bounds 1 largestP p (a .1) in
+    record { from-in = ltb-true _ _ (b .0); to-in = ltb-true _ _ (b .1); some-p = c .0; p-in = c .1 }

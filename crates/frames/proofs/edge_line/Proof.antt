@@ -104,14 +104,16 @@ returns-4 c =
     let apart = c .before .before in
     let in2 = apart .before .before .before .before in
     let spaced = held (apart .before .edge-spaced .ensures) (apart .if3 .left) in
-    edge-order _ _ _ (seen (in2 .before)) (held (in2 .before .edge-in .ensures) (in2 .if2 .left)) spaced (failed (c .before .edge-after .ensures) (c .if4 .taken))
+    edge-order _ _ _ (seen (in2 .before)) (held (in2 .before .edge-in .ensures) (in2 .if2 .left))
+    spaced (failed (c .before .edge-after .ensures) (c .if4 .taken))
 
 returns-5 : tie.Need-returns-5
 returns-5 c =
     let apart = c .before .before in
     let in2 = apart .before .before .before .before in
     let spaced = held (apart .before .edge-spaced .ensures) (apart .if3 .left) in
-    edge-taken _ _ _ (seen (in2 .before)) (held (in2 .before .edge-in .ensures) (in2 .if2 .left)) spaced (held (c .before .edge-after .ensures) (c .if4 .left))
+    edge-taken _ _ _ (seen (in2 .before)) (held (in2 .before .edge-in .ensures) (in2 .if2 .left))
+    spaced (held (c .before .edge-after .ensures) (c .if4 .left))
 
 pub edge-line-spec : {M : Type 1} → statement M
 edge-line-spec =

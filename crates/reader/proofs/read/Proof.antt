@@ -113,10 +113,14 @@ add-refused-2 : tie.Need-add-refused-2 Inv-loop μ-loop
 add-refused-2 c = let f = facts (c .before .before .before .before .before) in omega arith
 
 add-refused-3 : tie.Need-add-refused-3 Inv-loop μ-loop
-add-refused-3 c = let f = facts (c .before .before .before .before .before .before) in omega (arith, lines-few (lines (c .before .before .before .before)))
+add-refused-3 c =
+    let f = facts (c .before .before .before .before .before .before) in
+    omega (arith, lines-few (lines (c .before .before .before .before)))
 
 refused-requires-3 : tie.Need-refused-requires-3 Inv-loop μ-loop
-refused-requires-3 c κs = let f = facts (c .before .before .before .before .before .before) in omega (arith, lines-few (lines (c .before .before .before .before)))
+refused-requires-3 c κs =
+    let f = facts (c .before .before .before .before .before .before) in
+    omega (arith, lines-few (lines (c .before .before .before .before)))
 
 returns-4 : tie.Need-returns-4 Inv-loop μ-loop
 returns-4 c =
