@@ -21,6 +21,7 @@ use Rattle.rows.proofs.Order.{node-in, node-pos, top-in}
 use Rattle.ranges.specs.Stretch.{stretchOf}
 use Rattle.ranges.proofs.CellBounds.{stretch-length, cell-bound}
 use Rattle.ranges.proofs.Nodes.{listed-cell}
+use Rattle.ranges.proofs.RowsRise.{row-rises}
 use Rattle.walk.specs.Ranges.{range}
 use Rattle.walk.specs.Rows.{rowStart}
 use Rattle.walk.specs.Lent.{Walkable}
@@ -121,5 +122,8 @@ module _ (t : Table) (k : Held t) (h d : ℕ) (l : h < t .n) (a : Above) (c : Co
           within = λ j m. omega (arith, at t k h d l a c full j m .within, need-is);
         };
         own = omega arith;
+        rise = λ j q f m x u v.
+            rw (cell-at j q f m x u (omega arith), cell-at j q f m x (suc u) v)
+            (row-rises (getD ks j noTask) d (paths-some (getD ks j noTask) (sound-at j q) d) (subst (λ (n : ℕ). Node 0 n f m) (paths-at j q) x) u v);
         cells = λ j q f m x u v. rw (cell-at j q f m x u v) (le-trans (cell-bound (getD ks j noTask) (sound-at j q) d ((2 * f + topRow m) * d + u)) (omega (arith, c .calm .short)));
       }

@@ -69,6 +69,7 @@ module _ {h d e : ℕ} {root count base first len work : List ℕ} (f : Walkable
             let a = ready-at w j l in
             omega (arith, base-at j l, row-end d (getD root j 0) (a .node) (f .stretches .paths j l .0), f .stretches .within j l);
         cells = λ j l t k. rw (base-at j l) (f .cells j l (getD first j 0) (getD len j 0) (ready-at w j l .node) t k);
+        rise = λ j l t k. rw (base-at j l) (f .rise j l (getD first j 0) (getD len j 0) (ready-at w j l .node) t k);
       }
 
   -- the test's answer o, taken apart, and then the move's answer r

@@ -1,6 +1,6 @@
 -- A group as the code has it, in lent arrays of which the first h cells count; what the functions ask of them and promise. Assumes nothing.
 use mathlib.Core.Path.{_≡_}
-use Prim.Native.Nat.{ℕ, _+_, _-_, _*_, _≤_, _<_}
+use Prim.Native.Nat.{ℕ, suc, _+_, _-_, _*_, _≤_, _<_}
 use mathlib.Core.List.{List, [], _∷_}
 use lib.ListN.{length, take, drop, getD}
 use Rattle.meaning.specs.Bounds.{largestD, mostPaths}
@@ -54,17 +54,20 @@ pub record Ready (h d : ℕ) (root count base first len : List ℕ) : Type 0 whe
 abbrev pub light : ℕ
 light = 500000000
 
--- the rows that begin there lie in the work area, and their cells are light
+-- the rows that begin there lie in the work area, and their cells are light and never fall from one tick to the next
 pub record Rows (h d : ℕ) (base work : List ℕ) : Type 0 where
   pub base7 : length base ≡ mostHigher
   pub within : (j : ℕ) → j < h → getD base j 0 + d ≤ length work
   pub cells : (j : ℕ) → j < h → (t : ℕ) → t < d → getD work (getD base j 0 + t) 0 ≤ light
+  pub rise : (j : ℕ) → j < h → (t : ℕ) → suc t < d → getD work (getD base j 0 + t) 0 ≤ getD work (getD base j 0 + suc t) 0
 
--- the stretches lie in the work area, and the cells of their rows are light
+-- the stretches lie in the work area, and the cells of each row are light and never fall from one tick to the next
 pub record Walkable (h d e : ℕ) (root count work : List ℕ) : Type 0 where
   pub stretches : Stretches (length work) h d root count
   pub own : e ≤ light
   pub cells : (j : ℕ) → j < h → (f m : ℕ) → Node 0 (getD count j 0) f m → (t : ℕ) → t < d → getD work (rowStart d (getD root j 0) (range f m) + t) 0 ≤ light
+  pub rise : (j : ℕ) → j < h → (f m : ℕ) → Node 0 (getD count j 0) f m → (t : ℕ) → suc t < d
+      → getD work (rowStart d (getD root j 0) (range f m) + t) 0 ≤ getD work (rowStart d (getD root j 0) (range f m) + suc t) 0
 
 -- ---- what is promised
 
