@@ -22,8 +22,7 @@ use Rattle.ranges.specs.Stretch.{stretchOf}
 use Rattle.ranges.proofs.CellBounds.{stretch-length, cell-bound}
 use Rattle.ranges.proofs.Nodes.{listed-cell}
 use Rattle.ranges.proofs.RowsRise.{row-rises}
-use Rattle.walk.specs.Ranges.{range}
-use Rattle.walk.specs.Rows.{rowStart}
+use Rattle.rows.specs.Ranges.{range, rowStart}
 use Rattle.walk.specs.Lent.{Walkable}
 use Rattle.walk.specs.Told.{sizes, RowsHold}
 use Rattle.table.specs.declared.Table.{Table}
@@ -116,8 +115,8 @@ module _ (t : Table) (k : Held t) (h d : ℕ) (l : h < t .n) (a : Above) (c : Co
         stretches = record {
           few = c .calm .seven;
           short = c .calm .short;
-          root7 = c .calm .roots7;
-          count7 = c .calm .counts7;
+          rootLength = c .calm .roots7;
+          countLength = c .calm .counts7;
           paths = λ j m. let p = at t k h d l a c full j m in (p .some, p .few);
           within = λ j m. omega (arith, at t k h d l a c full j m .within, need-is);
         };

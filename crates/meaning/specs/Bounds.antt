@@ -1,5 +1,5 @@
 -- Every number that document 01 sets, once. Assumes nothing.
-use Prim.Native.Nat.{ℕ}
+use Prim.Native.Nat.{ℕ, _+_, _-_, _*_}
 
 -- ---- a table
 
@@ -24,6 +24,10 @@ largestP = 1000
 
 -- ---- judging
 
+-- a vertex has at most so many higher tasks
+abbrev pub mostHigher : ℕ
+mostHigher = mostTasks - 1
+
 -- a higher task may have so many complete paths
 abbrev pub mostPaths : ℕ
 mostPaths = 64
@@ -36,8 +40,9 @@ longestInput = 8191
 abbrev pub deskWork : ℕ
 deskWork = 8192
 
+-- as many as any vertex needs
 abbrev pub deskWitness : ℕ
-deskWitness = 1407
+deskWitness = mostHigher * (1 + largestD)
 
 abbrev pub deskBudget : ℕ
 deskBudget = 100000

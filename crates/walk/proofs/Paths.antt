@@ -12,12 +12,14 @@ use Rattle.meaning.specs.Groups as Meant
 use Rattle.meaning.specs.Groups.{half, firstPart, secondPart, long, single, groupLoads, overloads}
 use Rattle.meaning.specs.Walk.{heads}
 use Rattle.meaning.proofs.Lists.{drop-take}
-use Rattle.walk.specs.Ranges.{Range, endOf, firstHalf, secondHalf, firsts, topGroup, allSingle, childBy, InWalk}
+use Rattle.rows.specs.Ranges.{Range, endOf, firstHalf, secondHalf}
+use Rattle.groups.specs.Groups.{firsts, topGroup, allSingle, childBy, InWalk, rowStarts}
 use Rattle.rows.specs.Order.{Node}
-use Rattle.walk.specs.Rows.{loadsAt, rowStarts, rowsOverload, groupOverloads}
+use Rattle.overload.specs.Rows.{loadsAt, rowsOverload}
+use Rattle.walk.specs.Steps.{groupOverloads}
 use Rattle.walk.specs.Told.{sizes, partOf, chosen, AtPaths, RowsHold}
 use Rattle.rows.proofs.Order.{node-in, node-pos}
-use Rattle.walk.proofs.Ticks.{exceeds-same}
+use Rattle.overload.proofs.Ticks.{exceeds-same}
 
 module _ {X : Type 0} where
   abbrev pub groupOf : List (List X) → List Range → List (List X)

@@ -12,12 +12,14 @@ use Rattle.meaning.specs.Areas.{written}
 use Rattle.walk.specs.declared.Examined.{Examined}
 use Rattle.walk.specs.declared.Examined.the-variants.{Next, Last, Witness}
 use Rattle.walk.specs.declared.Ending.the-variants.{Meets, Misses, Unfinished}
-use Rattle.walk.specs.Ranges.{Range, firsts, topGroup, InWalk}
-use Rattle.walk.specs.Rows.{groupOverloads}
-use Rattle.walk.specs.Steps.{mostHigher, examine, walked, runBy, runFrom, runRows}
-use Rattle.walk.specs.Lent.{groupIn, largestIndex, Stretches, Ready, Walkable, Stands, Stepped}
-use Rattle.walk.proofs.Pending.{Filled, filled-top}
-use Rattle.walk.proofs.Arrays.{holds-firsts, holds-own}
+use Rattle.rows.specs.Ranges.{Range}
+use Rattle.groups.specs.Groups.{firsts, topGroup, InWalk}
+use Rattle.walk.specs.Steps.{groupOverloads, examine, walkEnd, runBy, runFrom, runRows}
+use Rattle.meaning.specs.Bounds.{mostHigher}
+use Rattle.groups.specs.Lent.{groupIn, largestIndex, Stretches, Standing, Stands}
+use Rattle.walk.specs.Lent.{Walkable, Stepped}
+use Rattle.groups.proofs.Pending.{Filled, filled-top}
+use Rattle.groups.proofs.Arrays.{holds-firsts, holds-own}
 use Rattle.walk.proofs.Stepping.{examine-walk, walk-length}
 
 -- ---- a step of the run
@@ -38,7 +40,7 @@ nowhere = replicate mostHigher 0
 
 pub wider : {room h d : ℕ} {root count : List ℕ} → room ≤ largestIndex → Stretches room h d root count → Stretches largestIndex h d root count
 wider l s =
-    record { few = s .few; short = s .short; root7 = s .root7; count7 = s .count7; paths = s .paths; within = λ j k. le-trans (s .within j k) l }
+    record { few = s .few; short = s .short; rootLength = s .rootLength; countLength = s .countLength; paths = s .paths; within = λ j k. le-trans (s .within j k) l }
 
 filled-by : (h : ℕ) (ns : List ℕ) → h ≤ length ns → ((j : ℕ) → j < h → 0 < getD ns j 0) → Filled (take h ns)
 filled-by zero ns l p = tt
@@ -46,11 +48,11 @@ filled-by (suc h) [] l p = absurd (omega arith)
 filled-by (suc h) (n ∷ ns) l p = (p 0 (omega arith), filled-by h ns (omega arith) (λ j k. p (suc j) (omega arith)))
 
 pub counts-filled : {room h d : ℕ} {root count : List ℕ} → Stretches room h d root count → Filled (take h count)
-counts-filled {h = h} {count = count} s = let a = s .few in let b = s .count7 in filled-by h count (omega arith) (λ j l. s .paths j l .0)
+counts-filled {h = h} {count = count} s = let a = s .few in let b = s .countLength in filled-by h count (omega arith) (λ j l. s .paths j l .0)
 
 -- after n groups the arrays hold the next, and going on from there gives the whole answer
 pub record Going (h d e b : ℕ) (root count work base first len : List ℕ) (n : ℕ) : Type 0 where
-  pub ready : Ready h d root count base first len
+  pub standing : Standing h d root count base first len
   pub zeros : drop h first ≡ drop h nowhere
   pub most : n ≤ b
   pub same : runRows work d e (take h root) (take h count) b ≡ runFrom (groupOverloads work d e (take h root)) (take h count) (b - n) n (groupIn h first len)
@@ -66,7 +68,7 @@ module _ {h d e : ℕ} {root count work : List ℕ} (f : Walkable h d e root cou
     pub going-top : length work ≤ largestIndex → {base first len : List ℕ} → Stands h d root nowhere nowhere nowhere base first len (topGroup ns) → Going h d e b root count work base first len 0
     going-top l s =
         record {
-          ready = record {
+          standing = record {
             stretches = wider l (f .stretches);
             holds = holds-own (s .holds);
             reached = rw (s .holds .group) (filled-top ns (counts-filled (f .stretches)));
@@ -80,12 +82,12 @@ module _ {h d e : ℕ} {root count work : List ℕ} (f : Walkable h d e root cou
       abbrev here : List Range
       here = groupIn h first len
 
-      pub going-out : b ≤ n → walked (Unfinished b) [] ≡ runRows work d e (take h root) ns b
+      pub going-out : b ≤ n → walkEnd (Unfinished b) [] ≡ runRows work d e (take h root) ns b
       going-out l =
           let m = g .most in
           let k : b - n ≡ 0 = omega arith in
           let q : n ≡ b = omega arith in
-          sym (g .same ∙ ap (λ (z : ℕ). runFrom rows ns z n here) k ∙ ap (λ (z : ℕ). walked (Unfinished z) []) q)
+          sym (g .same ∙ ap (λ (z : ℕ). runFrom rows ns z n here) k ∙ ap (λ (z : ℕ). walkEnd (Unfinished z) []) q)
 
       module _ (l : n < b) {told : Examined} {base′ first′ len′ : List ℕ} (s : Stepped (examine rows ns here) h d root base first len told base′ first′ len′) where
         on-told : (t : Examined) → told ≡ t → runRows work d e (take h root) ns b ≡ runBy n (λ (ys : List Range). runFrom rows ns (b - (n + 1)) (n + 1) ys) t (examine rows ns here .group)
@@ -94,24 +96,24 @@ module _ {h d e : ℕ} {root count work : List ℕ} (f : Walkable h d e root cou
         pub going-next : told ≡ Next → Going h d e b root count work base′ first′ len′ (n + 1)
         going-next q =
             record {
-              ready = record {
-                stretches = g .ready .stretches;
+              standing = record {
+                stretches = g .standing .stretches;
                 holds = holds-own (s .stands .holds);
-                reached = rw (s .stands .holds .group) (examine-walk rows ns here (g .ready .reached));
+                reached = rw (s .stands .holds .group) (examine-walk rows ns here (g .standing .reached));
               };
               zeros = s .stands .firsts ∙ g .zeros;
               most = omega arith;
               same = on-told Next q ∙ ap (runFrom rows ns (b - (n + 1)) (n + 1)) (sym (s .stands .holds .group));
             }
 
-        pub going-last : told ≡ Last → walked (Meets (n + 1)) [] ≡ runRows work d e (take h root) ns b
-        going-last q = sym (on-told Last q ∙ ap (λ (k : ℕ). walked (Meets k) []) (sym (add-one n)))
+        pub going-last : told ≡ Last → walkEnd (Meets (n + 1)) [] ≡ runRows work d e (take h root) ns b
+        going-last q = sym (on-told Last q ∙ ap (λ (k : ℕ). walkEnd (Meets k) []) (sym (add-one n)))
 
         places : first′ ≡ written (firsts (examine rows ns here .group)) nowhere
         places =
             let z = s .stands .holds in
             let r = f .stretches .few in
-            let i = z .first7 in
+            let i = z .firstLength in
             let e′ : firsts (examine rows ns here .group) ≡ take h first′ = holds-firsts z in
             let k : length (firsts (examine rows ns here .group)) ≡ h = ap length e′ ∙ length-take-le h first′ (omega arith) in
             sym (take-append-drop h first′) ∙ ap₂ _++_ (sym e′) (s .stands .firsts ∙ g .zeros ∙ ap (λ (m : ℕ). drop m nowhere) (sym k))

@@ -16,20 +16,22 @@ use Rattle.meaning.specs.Walk.{Outcome, ended, cut, run}
 use Rattle.meaning.proofs.Lists.{both}
 use Rattle.meaning.proofs.Groups.{full}
 use Rattle.meaning.proofs.Run.{run-quiet, run-hit, run-split, run-top, run-top-short}
+use Rattle.walk.specs.declared.Examined.the-variants.{Last}
 use Rattle.walk.specs.declared.Ending.the-variants.{Meets, Misses, Unfinished}
 use Rattle.walk.specs.declared.Walked.{Walked}
-use Rattle.walk.specs.Ranges.{Range, firsts, topGroup, allSingle, firstChild, nextGroup, InWalk}
-use Rattle.walk.specs.Steps.{Step, descend, onwardBy, walked, runBy, runFrom}
+use Rattle.rows.specs.Ranges.{Range}
+use Rattle.groups.specs.Groups.{firsts, topGroup, allSingle, firstChild, nextGroup, InWalk}
+use Rattle.walk.specs.Steps.{Step, stepBy, descend, walkEnd, runBy, runFrom}
 use Rattle.walk.specs.Told.{sizes, chosen, AtPaths, Says}
-use Rattle.walk.proofs.Pending.{Filled, filled-top, walk-child, pending, pending-top, pending-child, FirstPending, next-pending}
+use Rattle.groups.proofs.Pending.{Filled, filled-top, walk-child, pending, pending-top, pending-child, FirstPending, next-pending}
 use Rattle.walk.proofs.Paths.{groupOf, group-single, group-first-child, group-second-child, group-top, chosen-heads, firsts-at-paths}
 
 module _ {X : Type 0} where
   -- the answer r gives an outcome of the walk over paths, with k steps allowed in all
   abbrev Gives : List (List X) → ℕ → Outcome X → Walked → Type 0
-  Gives Gs k (ended n none) r = r ≡ walked (Meets n) []
-  Gives Gs k (ended n (some w)) r = (ps : List ℕ) × (r ≡ walked (Misses n) ps) × (w ≡ chosen Gs (r .places)) × AtPaths Gs (r .places)
-  Gives Gs k cut r = r ≡ walked (Unfinished k) []
+  Gives Gs k (ended n none) r = r ≡ walkEnd (Meets n) []
+  Gives Gs k (ended n (some w)) r = (ps : List ℕ) × (r ≡ walkEnd (Misses n) ps) × (w ≡ chosen Gs (r .places)) × AtPaths Gs (r .places)
+  Gives Gs k cut r = r ≡ walkEnd (Unfinished k) []
 
   sizes-full : (Gs : List (List X)) → Filled (sizes Gs) → T (full Gs)
   sizes-full [] p = tt
@@ -62,7 +64,7 @@ module _ {X : Type 0} (load : X → ℕ → ℕ) (e d : ℕ) (Gs : List (List X)
       ∙ ap (λ (r : List (List X)). Meant.firstChild (groupOf Gs xs) ∷ r ∷ behind xs) (group-second-child Gs xs o))
 
   alike : (b n : ℕ) (xs : List Range) → InWalk ns xs → Alike b n xs
-  alike zero n xs o = ap (λ (k : ℕ). walked (Unfinished k) []) (sym (add-zero n))
+  alike zero n xs o = ap (λ (k : ℕ). walkEnd (Unfinished k) []) (sym (add-zero n))
   alike (suc b) n xs o = go (over xs) refl (allSingle xs) refl (nextGroup ns xs) (next-pending ns xs o) (λ ys p. alike b (suc n) ys p)
     where
       step-by : Step → Walked
@@ -70,7 +72,7 @@ module _ {X : Type 0} (load : X → ℕ → ℕ) (e d : ℕ) (Gs : List (List X)
 
       go : (v : Bool) → over xs ≡ v → (s : Bool) → allSingle xs ≡ s → (f : Option (List Range)) → FirstPending ns xs f
           → ((ys : List Range) → InWalk ns ys → Alike b (suc n) ys)
-          → Gives Gs (n + suc b) (run load e d (suc b) (groupOf Gs xs ∷ behind xs) n) (step-by (pick (over xs) (descend xs) (onwardBy ns f)))
+          → Gives Gs (n + suc b) (run load e d (suc b) (groupOf Gs xs ∷ behind xs) n) (step-by (pick (over xs) (descend xs) (stepBy Last (topGroup ns) f)))
       go false h s q none a ih =
           rw h (further b n _ _ _ (run-quiet load e d b n (groupOf Gs xs) (behind xs) (sym (same xs o) ∙ h)
           ∙ ap (λ (z : List (List Range)). run load e d b (map (groupOf Gs) z) (suc n)) a ∙ run-none b (suc n)) refl)

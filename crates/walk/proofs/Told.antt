@@ -6,12 +6,12 @@ use mathlib.Core.List.{List, [], _∷_, _++_, append-assoc}
 use lib.ListN.{length, take, drop, getD}
 use lib.Seq.{length-take-le, drop-cons}
 use Rattle.walk.specs.declared.Walked.{Walked}
-use Rattle.walk.specs.Ranges.{topGroup}
-use Rattle.walk.specs.Rows.{groupOverloads}
-use Rattle.walk.specs.Steps.{mostHigher, runRows}
+use Rattle.groups.specs.Groups.{topGroup}
+use Rattle.walk.specs.Steps.{groupOverloads, runRows}
+use Rattle.meaning.specs.Bounds.{mostHigher}
 use Rattle.walk.specs.Lent.{Walkable}
 use Rattle.walk.specs.Told.{sizes, chosen, RowsHold, Says}
-use Rattle.walk.proofs.Pending.{filled-top}
+use Rattle.groups.proofs.Pending.{filled-top}
 use Rattle.walk.proofs.Running.{counts-filled, run-places}
 use Rattle.walk.proofs.Paths.{overloads-are}
 use Rattle.walk.proofs.Same.{run-says}
@@ -24,7 +24,7 @@ module _ {X : Type 0} (load : X → ℕ → ℕ) (Gs : List (List X)) where
       → (b : ℕ) {r : Walked} → r ≡ runRows work d e (take h root) (take h count) b → Says load e d b Gs (r .ending) (r .places)
   walk-says {d = d} {e} {root} {work = work} w many are rows b {r} q =
       let a = w .stretches .few in
-      let c = w .stretches .root7 in
+      let c = w .stretches .rootLength in
       run-says load e d Gs (groupOverloads work d e (take (length Gs) root)) (overloads-are load work d e Gs root (omega arith) rows) b
       (rw are at (counts-filled (w .stretches))) r (q ∙ ap₂ (λ (k : ℕ) (ns : List ℕ). runRows work d e (take k root) ns b) (sym many) are)
 
@@ -32,7 +32,7 @@ module _ {X : Type 0} (load : X → ℕ → ℕ) (Gs : List (List X)) where
 pub places-whole : {h d e : ℕ} {root count work : List ℕ} → Walkable h d e root count work → (b : ℕ) {r : Walked} → r ≡ runRows work d e (take h root) (take h count) b → length (r .places) ≡ mostHigher
 places-whole {h} {d} {e} {root} {count} {work} w b q =
     let a = w .stretches .few in
-    let c = w .stretches .count7 in
+    let c = w .stretches .countLength in
     ap (λ (z : Walked). length (z .places)) q
     ∙ run-places (groupOverloads work d e (take h root)) (take h count) (omega (arith, length-take-le h count (omega arith))) b 0 (topGroup (take h count))
     (filled-top (take h count) (counts-filled (w .stretches)))

@@ -19,7 +19,7 @@ loop-holds : tie.Need-loop-holds Inv-loop μ-loop
 loop-holds c = going-top (c .before .before .before .before .before .pre) (omega arith) (c .top-group .ensures)
 
 step-requires : tie.Need-step-requires Inv-loop μ-loop
-step-requires c κs = let l = c .before .before .before .before in (l .before .before .before .before .before .before .pre, l .loop .inv .ready)
+step-requires c κs = let l = c .before .before .before .before in (l .before .before .before .before .before .before .pre, l .loop .inv .standing)
 
 add-examined : tie.Need-add-examined Inv-loop μ-loop
 add-examined c = omega arith

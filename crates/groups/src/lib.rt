@@ -1,0 +1,113 @@
+// "A range is a run of neighbours in one task's ordered complete paths." "A group takes one range from each higher task." "The top group takes all. A
+// group with some longer range has two children: the lowest-numbered task whose range is longer than one is split, first part first."
+//
+// A group is lent as arrays: where the row of each task's range begins in the work area (`base`), its `first` path and its `len`. Of each higher task
+// there is a stretch of rows there, which begins at `root`, and the `count` of its paths; no paths are known here.
+use bounds::PerTask;
+use rows::half;
+use rows::rest_length;
+use rows::top_row;
+ghost use mathlib.Core.Path.{_≡_};
+ghost use Prim.Native.Nat.{_+_, _≤_};
+ghost use lib.ListN.{length, take};
+ghost use Rattle.meaning.specs.Bounds.{largestD, mostHigher, mostPaths};
+ghost use Rattle.rows.specs.Ranges.{range, rowStart};
+ghost use Rattle.groups.specs.Groups.{topGroup};
+ghost use Rattle.groups.specs.Lent.{largestIndex, Stretches, Standing, Stands, ToChild, ToNext};
+
+// Where the row of the n paths from place first on begins.
+fn row_start(root: usize, first: usize, n: usize, d: usize) -> usize
+    requires { ⌜ (first + n ≤ mostPaths) × (d ≤ largestD) × (rowStart d root (range first n) ≤ largestIndex) ⌝ }
+    ensures { λ r. ⌜ r ≡ rowStart d root (range first n) ⌝ }
+{
+    let row = 2 * first + top_row(n);
+    root + row * d
+}
+
+// The top group.
+pub fn top_group(
+    root: &PerTask,
+    count: &PerTask,
+    base: &mut PerTask,
+    first: &mut PerTask,
+    len: &mut PerTask,
+    h: usize,
+    d: usize,
+)
+    requires { ⌜ Stretches largestIndex h d (now root) (now count) × (length (now base) ≡ mostHigher) × (length (now first) ≡ mostHigher) × (length (now len) ≡ mostHigher) ⌝ }
+    ensures { λ _. ⌜ Stands h d (now (root .entry)) (now (base .entry)) (now (first .entry)) (now (len .entry)) (now (base .exit)) (now (first .exit)) (now (len .exit)) (topGroup (take h (now (count .entry)))) ⌝ }
+{
+    let mut j: usize = 0;
+    while j < h {
+        let c = count[j];
+        let b = row_start(root[j], 0, c, d);
+        base[j] = b;
+        first[j] = 0;
+        len[j] = c;
+        j += 1;
+    }
+}
+
+// The first child, if the group has children: else it is of single paths, and stays.
+pub fn first_child(
+    root: &PerTask,
+    count: &PerTask,
+    base: &mut PerTask,
+    first: &PerTask,
+    len: &mut PerTask,
+    h: usize,
+    d: usize,
+) -> bool
+    requires { ⌜ Standing h d (now root) (now count) (now base) (now first) (now len) ⌝ }
+    ensures { λ r. ⌜ ToChild h d (now (root .entry)) (now (base .entry)) (now (first .entry)) (now (len .entry)) r (now (base .exit)) (now (len .exit)) ⌝ }
+{
+    let mut j: usize = 0;
+    while j < h {
+        let n = len[j];
+        if 1 < n {
+            let c = half(n);
+            let b = row_start(root[j], first[j], c, d);
+            base[j] = b;
+            len[j] = c;
+            return true;
+        }
+        j += 1;
+    }
+    false
+}
+
+// The next group when nothing below the present one is examined, if there is one: the last range that does not end its task's paths gives way to the
+// rest that begins behind it, and the tasks behind that one are whole again. Else it is the top group.
+pub fn next_group(
+    root: &PerTask,
+    count: &PerTask,
+    base: &mut PerTask,
+    first: &mut PerTask,
+    len: &mut PerTask,
+    h: usize,
+    d: usize,
+) -> bool
+    requires { ⌜ Standing h d (now root) (now count) (now base) (now first) (now len) ⌝ }
+    ensures { λ r. ⌜ ToNext h d (now (root .entry)) (now (count .entry)) (now (base .entry)) (now (first .entry)) (now (len .entry)) r (now (base .exit)) (now (first .exit)) (now (len .exit)) ⌝ }
+{
+    let mut j: usize = h;
+    while 0 < j {
+        j -= 1;
+        let s = first[j] + len[j];
+        let c = count[j];
+        let a = root[j];
+        if s < c {
+            let n = rest_length(0, c, s);
+            let b = row_start(a, s, n, d);
+            base[j] = b;
+            first[j] = s;
+            len[j] = n;
+            return true;
+        }
+        let b = row_start(a, 0, c, d);
+        base[j] = b;
+        first[j] = 0;
+        len[j] = c;
+    }
+    false
+}
