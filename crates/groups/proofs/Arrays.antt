@@ -1,5 +1,5 @@
 -- The arrays that hold a group: reading a range, writing one, and the cells that do not count. Assumes nothing.
-use mathlib.Core.Path.{_≡_, refl, sym, ap, subst, _∙_}
+use mathlib.Core.Path.{_≡_, refl, sym, ap, ap₂, subst, _∙_}
 use Prim.Native.Nat.{ℕ, zero, suc, _+_, _≤_, _<_}
 use native.Mathlib.Omega.{arith}
 use mathlib.Core.List.{List, [], _∷_}
@@ -9,7 +9,7 @@ use Rattle.rows.specs.Ranges.{Range, range, rowStart}
 use Rattle.groups.specs.Groups.{firsts, InWalk, rowStarts}
 use Rattle.rows.specs.Order.{Node}
 use Rattle.meaning.specs.Bounds.{mostHigher}
-use Rattle.groups.specs.Lent.{paired, groupIn, Holds, Standing, Stands}
+use Rattle.groups.specs.Lent.{Arrays, arrays, Sized, paired, groupIn, Holds, Standing, Stands}
 use Rattle.rows.proofs.Order.{node-in, node-pos}
 
 -- what is read where there is no range
@@ -37,7 +37,7 @@ paired-set (f ∷ fs) [] j a b e = absurd (omega arith)
 paired-set (f ∷ fs) (l ∷ ls) zero a b e = refl
 paired-set (f ∷ fs) (l ∷ ls) (suc j) a b e = ap (λ (x : List Range). range f l ∷ x) (paired-set fs ls j a b (omega arith))
 
-paired-firsts : (h : ℕ) (fs ls : List ℕ) → length fs ≡ length ls → firsts (groupIn h fs ls) ≡ take h fs
+paired-firsts : (h : ℕ) (fs ls : List ℕ) → length fs ≡ length ls → firsts (take h (paired fs ls)) ≡ take h fs
 paired-firsts zero fs ls e = refl
 paired-firsts (suc h) [] ls e = refl
 paired-firsts (suc h) (f ∷ fs) [] e = absurd (omega arith)
@@ -49,57 +49,77 @@ starts-set d (r ∷ rs) [] j y = refl
 starts-set d (r ∷ rs) (x ∷ xs) zero y = refl
 starts-set d (r ∷ rs) (x ∷ xs) (suc j) y = ap (λ (l : List ℕ). rowStart d r x ∷ l) (starts-set d rs xs j y)
 
-module _ (h : ℕ) (fs ls : List ℕ) (hf : length fs ≡ mostHigher) (hl : length ls ≡ mostHigher) (few : h ≤ mostHigher) where
-  pub group-length : length (groupIn h fs ls) ≡ h
-  group-length = length-take-le h (paired fs ls) (omega (arith, paired-length fs ls (omega arith)))
+starts-get : (d : ℕ) (rs : List ℕ) (xs : List Range) (j : ℕ) → j < length rs → j < length xs
+    → getD (rowStarts d rs xs) j 0 ≡ rowStart d (getD rs j 0) (getD xs j noRange)
+starts-get d [] xs j p q = absurd (omega arith)
+starts-get d (r ∷ rs) [] j p q = absurd (omega arith)
+starts-get d (r ∷ rs) (x ∷ xs) zero p q = refl
+starts-get d (r ∷ rs) (x ∷ xs) (suc j) p q = starts-get d rs xs j (omega arith) (omega arith)
 
-  pub group-get : (j : ℕ) → j < h → getD (groupIn h fs ls) j noRange ≡ range (getD fs j 0) (getD ls j 0)
-  group-get j l = getD-take h (paired fs ls) j noRange l ∙ paired-get fs ls j (omega arith)
+module _ {a : Arrays} (s : Sized a) where
+  pub even : length (a .first) ≡ length (a .len)
+  even = s .firstLength ∙ sym (s .lenLength)
+
+  module _ {h : ℕ} (few : h ≤ mostHigher) where
+    pub group-length : length (groupIn h a) ≡ h
+    group-length = length-take-le h (paired (a .first) (a .len)) (omega (arith, paired-length (a .first) (a .len) even, s .firstLength))
+
+    pub group-get : (j : ℕ) → j < h → getD (groupIn h a) j noRange ≡ range (getD (a .first) j 0) (getD (a .len) j 0)
+    group-get j l = getD-take h (paired (a .first) (a .len)) j noRange l ∙ paired-get (a .first) (a .len) j even
+
+-- the range of task j is written, and where its row begins
+abbrev pub put : Arrays → ℕ → ℕ → Range → Arrays
+put a j v x = arrays (set (a .base) j v) (set (a .first) j (x .first)) (set (a .len) j (x .len))
+
+pub put-sized : {a : Arrays} → Sized a → (j v : ℕ) (x : Range) → Sized (put a j v x)
+put-sized {a} s j v x =
+    record {
+      baseLength = length-set (a .base) j v ∙ s .baseLength;
+      firstLength = length-set (a .first) j (x .first) ∙ s .firstLength;
+      lenLength = length-set (a .len) j (x .len) ∙ s .lenLength;
+    }
 
 -- ---- arrays that hold a group
 
-module _ {h d : ℕ} {root base first len : List ℕ} {xs : List Range} (w : Holds h d root base first len xs) where
-  pub holds-firsts : firsts xs ≡ take h first
-  holds-firsts = let a = w .firstLength in let b = w .lenLength in ap firsts (sym (w .group)) ∙ paired-firsts h first len (omega arith)
+module _ {h d : ℕ} {root : List ℕ} {a : Arrays} {xs : List Range} (w : Holds h d root a xs) where
+  pub holds-firsts : firsts xs ≡ take h (a .first)
+  holds-firsts = ap firsts (sym (w .group)) ∙ paired-firsts h (a .first) (a .len) (even (w .sized))
 
-  pub holds-own : Holds h d root base first len (groupIn h first len)
-  holds-own = subst (Holds h d root base first len) (sym (w .group)) w
+  pub holds-own : Holds h d root a (groupIn h a)
+  holds-own = subst (Holds h d root a) (sym (w .group)) w
 
-  holds-set : (j a b v : ℕ) → j < h → v ≡ rowStart d (getD root j 0) (range a b) → Holds h d root (set base j v) (set first j a) (set len j b) (set xs j (range a b))
-  holds-set j a b v l e =
-      let p = w .firstLength in
-      let q = w .lenLength in
+  holds-put : (j v : ℕ) (x : Range) → j < h → v ≡ rowStart d (getD root j 0) x → Holds h d root (put a j v x) (set xs j x)
+  holds-put j v x l e =
       record {
-        baseLength = length-set base j v ∙ w .baseLength;
-        firstLength = length-set first j a ∙ w .firstLength;
-        lenLength = length-set len j b ∙ w .lenLength;
+        sized = put-sized (w .sized) j v x;
         group =
-            ap (take h) (paired-set first len j a b (omega arith)) ∙ take-set-lt h (paired first len) j (range a b) l
-            ∙ ap (λ (z : List Range). set z j (range a b)) (w .group);
+            ap (take h) (paired-set (a .first) (a .len) j (x .first) (x .len) (even (w .sized)))
+            ∙ take-set-lt h (paired (a .first) (a .len)) j x l ∙ ap (λ (z : List Range). set z j x) (w .group);
         starts =
-            take-set-lt h base j v l ∙ ap (λ (z : List ℕ). set z j v) (w .starts)
-            ∙ ap (set (rowStarts d (take h root) xs) j) (e ∙ ap (λ (r : ℕ). rowStart d r (range a b)) (sym (getD-take h root j 0 l)))
-            ∙ sym (starts-set d (take h root) xs j (range a b));
+            take-set-lt h (a .base) j v l ∙ ap (λ (z : List ℕ). set z j v) (w .starts)
+            ∙ ap (set (rowStarts d (take h root) xs) j) (e ∙ ap (λ (r : ℕ). rowStart d r x) (sym (getD-take h root j 0 l)))
+            ∙ sym (starts-set d (take h root) xs j x);
       }
 
-pub stands-start : {h d : ℕ} {root base first len : List ℕ} {xs : List Range} → Holds h d root base first len xs → Stands h d root base first len base first len xs
+pub stands-start : {h d : ℕ} {root : List ℕ} {a : Arrays} {xs : List Range} → Holds h d root a xs → Stands h d root a a xs
 stands-start w = record { holds = w; bases = refl; firsts = refl; lens = refl }
 
-module _ {h d : ℕ} {root base₀ first₀ len₀ base first len : List ℕ} {xs : List Range} (w : Stands h d root base₀ first₀ len₀ base first len xs) (j b v : ℕ) (l : j < h) where
-  pub stands-set : (a : ℕ) → v ≡ rowStart d (getD root j 0) (range a b) → Stands h d root base₀ first₀ len₀ (set base j v) (set first j a) (set len j b) (set xs j (range a b))
-  stands-set a e =
+module _ {h d : ℕ} {root : List ℕ} {a b : Arrays} {xs : List Range} (w : Stands h d root a b xs) (j v : ℕ) (l : j < h) where
+  pub stands-put : (x : Range) → v ≡ rowStart d (getD root j 0) x → Stands h d root a (put b j v x) (set xs j x)
+  stands-put x e =
       record {
-        holds = holds-set (w .holds) j a b v l e;
-        bases = drop-set-lt h base j v l ∙ w .bases;
-        firsts = drop-set-lt h first j a l ∙ w .firsts;
-        lens = drop-set-lt h len j b l ∙ w .lens;
+        holds = holds-put (w .holds) j v x l e;
+        bases = drop-set-lt h (b .base) j v l ∙ w .bases;
+        firsts = drop-set-lt h (b .first) j (x .first) l ∙ w .firsts;
+        lens = drop-set-lt h (b .len) j (x .len) l ∙ w .lens;
       }
 
   -- the range stays where it begins
-  pub stands-set-len : v ≡ rowStart d (getD root j 0) (range (getD first j 0) b) → Stands h d root base₀ first₀ len₀ (set base j v) first (set len j b) (set xs j (range (getD first j 0) b))
-  stands-set-len e =
-      subst (λ (z : List ℕ). Stands h d root base₀ first₀ len₀ (set base j v) z (set len j b) (set xs j (range (getD first j 0) b))) (set-getD first j 0)
-      (stands-set (getD first j 0) e)
+  pub stands-cut : (n : ℕ) → v ≡ rowStart d (getD root j 0) (range (getD (b .first) j 0) n)
+      → Stands h d root a (arrays (set (b .base) j v) (b .first) (set (b .len) j n)) (set xs j (range (getD (b .first) j 0) n))
+  stands-cut n e =
+      subst (λ (z : List ℕ). Stands h d root a (arrays (set (b .base) j v) z (set (b .len) j n)) (set xs j (range (getD (b .first) j 0) n)))
+      (set-getD (b .first) j 0) (stands-put (range (getD (b .first) j 0) n) e)
 
 -- ---- a range of a group of the walk
 
@@ -115,14 +135,24 @@ pub record At (n f m : ℕ) : Type 0 where
   pub within : f + m ≤ n
   pub full : 0 < m
 
-pub standing-at : {h d : ℕ} {root count base first len : List ℕ} → Standing h d root count base first len
-    → (j : ℕ) → j < h → At (getD count j 0) (getD first j 0) (getD len j 0)
-standing-at {h} {count = count} {first = first} {len = len} w j l =
-    let s = w .stretches in
-    let p = w .holds .firstLength in
-    let q = w .holds .lenLength in
-    let o = walk-at (take h count) (groupIn h first len) j (w .reached) (omega (arith, group-length h first len p q (s .few))) in
-    let x : Node 0 (getD count j 0) (getD first j 0) (getD len j 0) =
-    subst (λ (r : Range). Node 0 (getD count j 0) (r .first) (r .len)) (group-get h first len p q (s .few) j l)
-    (subst (λ (n : ℕ). Node 0 n (getD (groupIn h first len) j noRange .first) (getD (groupIn h first len) j noRange .len)) (getD-take h count j 0 l) o) in
-    record { node = x; within = omega (arith, node-in x); full = node-pos x (s .paths j l .0) }
+module _ {h d : ℕ} {root count : List ℕ} {a : Arrays} (w : Standing h d root count a) where
+  pub own-length : length (groupIn h a) ≡ h
+  own-length = group-length (w .holds .sized) (w .stretches .few)
+
+  pub own-get : (j : ℕ) → j < h → getD (groupIn h a) j noRange ≡ range (getD (a .first) j 0) (getD (a .len) j 0)
+  own-get = group-get (w .holds .sized) (w .stretches .few)
+
+  pub own-start : (j : ℕ) → j < h → getD (a .base) j 0 ≡ rowStart d (getD root j 0) (range (getD (a .first) j 0) (getD (a .len) j 0))
+  own-start j l =
+      let r = length-take-le h root (omega (arith, w .stretches .few, w .stretches .rootLength)) in
+      sym (getD-take h (a .base) j 0 l) ∙ ap (λ (z : List ℕ). getD z j 0) (w .holds .starts)
+      ∙ starts-get d (take h root) (groupIn h a) j (omega arith) (omega (arith, own-length))
+      ∙ ap₂ (rowStart d) (getD-take h root j 0 l) (own-get j l)
+
+  pub standing-at : (j : ℕ) → j < h → At (getD count j 0) (getD (a .first) j 0) (getD (a .len) j 0)
+  standing-at j l =
+      let o = walk-at (take h count) (groupIn h a) j (w .reached) (omega (arith, own-length)) in
+      let x : Node 0 (getD count j 0) (getD (a .first) j 0) (getD (a .len) j 0) =
+      subst (λ (r : Range). Node 0 (getD count j 0) (r .first) (r .len)) (own-get j l)
+      (subst (λ (n : ℕ). Node 0 n (getD (groupIn h a) j noRange .first) (getD (groupIn h a) j noRange .len)) (getD-take h count j 0 l) o) in
+      record { node = x; within = omega (arith, node-in x); full = node-pos x (w .stretches .paths j l .0) }

@@ -1,5 +1,5 @@
-pub mod RowPlaces
 pub mod Pending
+pub mod Stretches
 pub mod Arrays
 pub mod TopGroup
 pub mod FirstChild

@@ -14,10 +14,10 @@ use mathlib.Core.Bool.{true, false}
 use Rattle.rows.specs.Ranges.{Range, range, endOf, restLength, rowStart}
 use Rattle.groups.specs.Groups.{topGroup, nextGroup}
 use Rattle.rows.specs.Order.{top}
-use Rattle.groups.specs.Lent.{largestIndex, groupIn, Standing, Stands, ToNext}
+use Rattle.groups.specs.Lent.{Arrays, groupIn, largestIndex, Standing, Stands, ToNext}
 use Rattle.rows.proofs.Halving.{rest-next}
-use Rattle.groups.proofs.RowPlaces.{row-asked}
-use Rattle.groups.proofs.Arrays.{noRange, group-length, group-get, stands-start, stands-set, standing-at}
+use Rattle.groups.proofs.Stretches.{row-asked}
+use Rattle.groups.proofs.Arrays.{noRange, group-get, put, stands-start, stands-put, own-length, own-get, standing-at}
 
 -- ---- over lists
 
@@ -60,100 +60,97 @@ module _ (ns : List ℕ) (xs : List Range) (i : ℕ) (l : i < length xs) where
 -- ---- over the arrays
 
 -- back to task j: all from there on ended their tasks' paths, and are whole again
-pub record Back (h d : ℕ) (root count base₀ first₀ len₀ base first len : List ℕ) (j : ℕ) : Type 0 where
+pub record Back (h d : ℕ) (root count : List ℕ) (a b : Arrays) (j : ℕ) : Type 0 where
   pub low : j ≤ h
-  pub stands : Stands h d root base₀ first₀ len₀ base first len (wholeFrom (take h count) (groupIn h first₀ len₀) j)
-  pub ended : (k : ℕ) → j ≤ k → k < h → getD count k 0 ≤ getD first₀ k 0 + getD len₀ k 0
+  pub stands : Stands h d root a b (wholeFrom (take h count) (groupIn h a) j)
+  pub ended : (k : ℕ) → j ≤ k → k < h → getD count k 0 ≤ getD (a .first) k 0 + getD (a .len) k 0
 
-module _ {h d : ℕ} {root count base₀ first₀ len₀ : List ℕ} (w : Standing h d root count base₀ first₀ len₀) where
+module _ {h d : ℕ} {root count : List ℕ} {a : Arrays} (w : Standing h d root count a) where
   abbrev xs : List Range
-  xs = groupIn h first₀ len₀
+  xs = groupIn h a
 
   abbrev ns : List ℕ
   ns = take h count
 
-  long-xs : length xs ≡ h
-  long-xs = group-length h first₀ len₀ (w .holds .firstLength) (w .holds .lenLength) (w .stretches .few)
-
   long-ns : length ns ≡ h
-  long-ns = let a = w .stretches .few in let b = w .stretches .countLength in length-take-le h count (omega arith)
+  long-ns = length-take-le h count (omega (arith, w .stretches .few, w .stretches .countLength))
 
-  end-at : (k : ℕ) → k < h → endOf (getD xs k noRange) ≡ getD first₀ k 0 + getD len₀ k 0
-  end-at k l = ap endOf (group-get h first₀ len₀ (w .holds .firstLength) (w .holds .lenLength) (w .stretches .few) k l)
+  -- what the lists have at k is what the arrays have
+  end-at : (k : ℕ) → k < h → endOf (getD xs k noRange) ≡ getD (a .first) k 0 + getD (a .len) k 0
+  end-at k l = ap endOf (own-get w k l)
 
-  count-at : (k : ℕ) → k < h → getD ns k 0 ≡ getD count k 0
-  count-at k l = getD-take h count k 0 l
+  ended-at : (k : ℕ) → k < length xs → getD count k 0 ≤ getD (a .first) k 0 + getD (a .len) k 0 → getD ns k 0 ≤ endOf (getD xs k noRange)
+  ended-at k l e = let i : k < h = omega (arith, own-length w) in omega (arith, end-at k i, getD-take h count k 0 i)
 
-  pub back-start : Back h d root count base₀ first₀ len₀ base₀ first₀ len₀ h
+  pub back-start : Back h d root count a a h
   back-start =
-      record {
-        low = omega arith;
-        stands = subst (Stands h d root base₀ first₀ len₀ base₀ first₀ len₀)
-            (sym (ap₂ (λ (p : List Range) (q : List ℕ). p ++ topGroup q) (take-all h xs (omega (arith, long-xs))) (drop-of-length-le ns {i = h} (omega (arith, long-ns))) ∙ append-nil xs))
-            (stands-start (w .holds));
-        ended = λ k p q. absurd (omega arith);
-      }
+      let front : take h xs ≡ xs = take-all h xs (omega (arith, own-length w)) in
+      let none-behind : drop h ns ≡ [] = drop-of-length-le ns {i = h} (omega (arith, long-ns)) in
+      let all : xs ≡ wholeFrom ns xs h = sym (ap₂ (λ (p : List Range) (q : List ℕ). p ++ topGroup q) front none-behind ∙ append-nil xs) in
+      record { low = omega arith; stands = subst (Stands h d root a a) all (stands-start (w .holds)); ended = λ k p q. absurd (omega arith) }
 
-  module _ {base first len : List ℕ} where
-    pub back-from : {j : ℕ} → 0 < j → Back h d root count base₀ first₀ len₀ base first len j → Back h d root count base₀ first₀ len₀ base first len (suc (j - 1))
-    back-from {j} l b = let e : suc (j - 1) ≡ j = omega arith in rw e b
+  module _ {b : Arrays} where
+    pub back-from : {j : ℕ} → 0 < j → Back h d root count a b j → Back h d root count a b (suc (j - 1))
+    back-from {j} l k = let e : suc (j - 1) ≡ j = omega arith in rw e k
 
-    module _ {i : ℕ} (b : Back h d root count base₀ first₀ len₀ base first len (suc i)) where
+    module _ {i : ℕ} (k : Back h d root count a b (suc i)) where
+      -- the place behind the range at i
       abbrev s : ℕ
-      s = getD first i 0 + getD len i 0
+      s = getD (b .first) i 0 + getD (b .len) i 0
+
+      -- the paths of its task
+      abbrev n : ℕ
+      n = getD count i 0
 
       in-h : i < h
-      in-h = omega (arith, b .low)
+      in-h = omega (arith, k .low)
 
-      read : range (getD first i 0) (getD len i 0) ≡ getD xs i noRange
-      read =
-          let z = b .stands .holds in
-          sym (group-get h first len (z .firstLength) (z .lenLength) (w .stretches .few) i in-h)
-          ∙ ap (λ (g : List Range). getD g i noRange) (z .group) ∙ whole-get ns xs i (omega (arith, in-h, long-xs))
+      in-xs : i < length xs
+      in-xs = omega (arith, in-h, own-length w)
 
       end-is : s ≡ endOf (getD xs i noRange)
-      end-is = ap endOf read
+      end-is =
+          let z = k .stands .holds in
+          ap endOf (sym (group-get (z .sized) (w .stretches .few) i in-h)
+          ∙ ap (λ (g : List Range). getD g i noRange) (z .group) ∙ whole-get ns xs i in-xs)
 
-      -- the place behind the range at i
-      pub back-end : (s ≡ getD first₀ i 0 + getD len₀ i 0) × (0 < s) × (s ≤ getD count i 0) × (getD count i 0 ≤ mostPaths)
+      pub back-end : (s ≡ getD (a .first) i 0 + getD (a .len) i 0) × (0 < s) × (s ≤ n) × (n ≤ mostPaths)
       back-end =
-          let a = standing-at w i in-h in
-          let e : s ≡ getD first₀ i 0 + getD len₀ i 0 = end-is ∙ end-at i in-h in
+          let at = standing-at w i in-h in
+          let e : s ≡ getD (a .first) i 0 + getD (a .len) i 0 = end-is ∙ end-at i in-h in
           (e, omega arith, omega arith, w .stretches .paths i in-h .1)
 
-      pub back-asks : s < getD count i 0 → (m : ℕ) → m ≡ restLength 0 (getD count i 0) s
-          → (s + m ≤ mostPaths) × (d ≤ largestD) × (rowStart d (getD root i 0) (range s m) ≤ largestIndex)
-      back-asks l m e = row-asked (w .stretches) i in-h (rw e (rest-next (getD count i 0) s (back-end .1) l .node))
+      pub back-asks : s < n → (m : ℕ) → m ≡ restLength 0 n s → (s + m ≤ mostPaths) × (d ≤ largestD) × (rowStart d (getD root i 0) (range s m) ≤ largestIndex)
+      back-asks l m e = row-asked (w .stretches) i in-h (rw e (rest-next n s (back-end .1) l .node))
 
-      pub back-asks-whole : (0 + getD count i 0 ≤ mostPaths) × (d ≤ largestD) × (rowStart d (getD root i 0) (range 0 (getD count i 0)) ≤ largestIndex)
+      pub back-asks-whole : (0 + n ≤ mostPaths) × (d ≤ largestD) × (rowStart d (getD root i 0) (range 0 n) ≤ largestIndex)
       back-asks-whole = row-asked (w .stretches) i in-h (top refl refl)
 
-      pub back-found : (m v : ℕ) → s < getD count i 0 → m ≡ restLength 0 (getD count i 0) s → v ≡ rowStart d (getD root i 0) (range s m)
-          → ToNext h d root count base₀ first₀ len₀ true (set base i v) (set first i s) (set len i m)
-      back-found m v l e f =
-          let x : range s m ≡ behind (getD ns i 0) (getD xs i noRange) =
-          ap₂ range end-is (e ∙ ap₂ (restLength 0) (sym (count-at i in-h)) end-is) in
-          let n : nextGroup ns xs ≡ some (set (wholeFrom ns xs (suc i)) i (range s m)) =
-          next-at ns xs i (long-ns ∙ sym long-xs) (omega (arith, in-h, long-xs)) (λ k p q. omega (arith, b .ended k (omega arith) (omega (arith, long-xs)), end-at k (omega (arith, long-xs)), count-at k (omega (arith, long-xs)))) (omega (arith, end-is, count-at i in-h))
-          ∙ ap some (sym (ap (set (wholeFrom ns xs (suc i)) i) x ∙ whole-set ns xs i (omega (arith, in-h, long-xs)) (behind (getD ns i 0) (getD xs i noRange)))) in
-          rw n
-          record {
-            says = refl;
-            stands = stands-set (b .stands) i m v in-h s f;
-          }
+      ended-behind : (j : ℕ) → i < j → j < length xs → getD ns j 0 ≤ endOf (getD xs j noRange)
+      ended-behind j p q = ended-at j q (k .ended j (omega arith) (omega (arith, own-length w)))
 
-      pub back-more : (v : ℕ) → getD count i 0 ≤ s → v ≡ rowStart d (getD root i 0) (range 0 (getD count i 0))
-          → Back h d root count base₀ first₀ len₀ (set base i v) (set first i 0) (set len i (getD count i 0)) i
+      pub back-found : (m v : ℕ) → s < n → m ≡ restLength 0 n s → v ≡ rowStart d (getD root i 0) (range s m)
+          → ToNext h d root count a true (put b i v (range s m))
+      back-found m v l e f =
+          let c : getD ns i 0 ≡ n = getD-take h count i 0 in-h in
+          let x : range s m ≡ behind (getD ns i 0) (getD xs i noRange) = ap₂ range end-is (e ∙ ap₂ (restLength 0) (sym c) end-is) in
+          let g : nextGroup ns xs ≡ some (set (wholeFrom ns xs (suc i)) i (range s m)) =
+          next-at ns xs i (long-ns ∙ sym (own-length w)) in-xs ended-behind (omega (arith, end-is, c))
+          ∙ ap some (sym (ap (set (wholeFrom ns xs (suc i)) i) x ∙ whole-set ns xs i in-xs (behind (getD ns i 0) (getD xs i noRange)))) in
+          rw g record { says = refl; stands = stands-put (k .stands) i v in-h (range s m) f }
+
+      pub back-more : (v : ℕ) → n ≤ s → v ≡ rowStart d (getD root i 0) (range 0 n) → Back h d root count a (put b i v (range 0 n)) i
       back-more v l f =
+          let c : getD ns i 0 ≡ n = getD-take h count i 0 in-h in
+          let g : set (wholeFrom ns xs (suc i)) i (range 0 n) ≡ wholeFrom ns xs i =
+          ap (λ (z : ℕ). set (wholeFrom ns xs (suc i)) i (range 0 z)) (sym c) ∙ whole-back ns xs i in-xs (omega (arith, in-h, long-ns)) in
           record {
             low = omega (arith, in-h);
-            stands = subst (Stands h d root base₀ first₀ len₀ (set base i v) (set first i 0) (set len i (getD count i 0)))
-                (ap (λ (n : ℕ). set (wholeFrom ns xs (suc i)) i (range 0 n)) (sym (count-at i in-h)) ∙ whole-back ns xs i (omega (arith, in-h, long-xs)) (omega (arith, in-h, long-ns)))
-                (stands-set (b .stands) i (getD count i 0) v in-h 0 f);
-            ended = λ k p q. ⊎-elim (λ (z : i ≡ k). rw (← z) (omega (arith, back-end))) (λ z. b .ended k (omega arith) q) (eq-or-lt-of-le p);
+            stands = subst (Stands h d root a (put b i v (range 0 n))) g (stands-put (k .stands) i v in-h (range 0 n) f);
+            ended = λ j p q. ⊎-elim (λ (z : i ≡ j). rw (← z) (omega (arith, back-end))) (λ z. k .ended j (omega arith) q) (eq-or-lt-of-le p);
           }
 
-    pub back-none : {j : ℕ} → j ≡ 0 → Back h d root count base₀ first₀ len₀ base first len j → ToNext h d root count base₀ first₀ len₀ false base first len
-    back-none e b =
-        let n : nextGroup ns xs ≡ none = next-none ns xs (λ k l. omega (arith, b .ended k (omega arith) (omega (arith, long-xs)), end-at k (omega (arith, long-xs)), count-at k (omega (arith, long-xs)))) in
-        rw n record { says = refl; stands = subst (λ (k : ℕ). Stands h d root base₀ first₀ len₀ base first len (wholeFrom ns xs k)) e (b .stands) }
+    pub back-none : {j : ℕ} → j ≡ 0 → Back h d root count a b j → ToNext h d root count a false b
+    back-none e k =
+        let g : nextGroup ns xs ≡ none = next-none ns xs (λ j q. ended-at j q (k .ended j (omega arith) (omega (arith, own-length w)))) in
+        rw g record { says = refl; stands = subst (λ (j : ℕ). Stands h d root a b (wholeFrom ns xs j)) e (k .stands) }

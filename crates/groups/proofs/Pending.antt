@@ -1,10 +1,11 @@
 -- The groups still to be examined are a function of the group that the walk stands at. Assumes nothing.
 use mathlib.Core.Path.{_≡_, refl, ap, _∙_}
-use Prim.Native.Nat.{ℕ, _+_, _≤_, _<_}
+use Prim.Native.Nat.{ℕ, suc, _+_, _≤_, _<_}
 use native.Mathlib.Omega.{arith}
 use mathlib.Core.Bool.{Bool, true, false, true≢false}
 use mathlib.Core.Option.{Option, none, some}
 use mathlib.Core.List.{List, [], _∷_, _++_, map}
+use lib.ListN.{length}
 use lib.Dec.{ltb}
 use borrow.Author.Tests.{ltb-true, ltb-false}
 use Rattle.meaning.specs.Lists.{pick}
@@ -28,6 +29,12 @@ walk-filled [] [] o = tt
 walk-filled [] (x ∷ xs) o = absurd o
 walk-filled (n ∷ ns) [] o = absurd o
 walk-filled (n ∷ ns) (x ∷ xs) o = (o .0, walk-filled ns xs (o .3))
+
+pub walk-length : (ns : List ℕ) (xs : List Range) → InWalk ns xs → length xs ≡ length ns
+walk-length [] [] o = refl
+walk-length [] (x ∷ xs) o = absurd o
+walk-length (n ∷ ns) [] o = absurd o
+walk-length (n ∷ ns) (x ∷ xs) o = ap suc (walk-length ns xs (o .3))
 
 -- the later tasks' turn comes first, and each second half still to come goes with the whole of the tasks behind it
 abbrev pub pending : List ℕ → List Range → List (List Range)

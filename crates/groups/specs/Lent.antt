@@ -12,22 +12,34 @@ use Rattle.groups.specs.Groups.{rowStarts, topGroup, childGroup, nextGro
 
 -- ---- the arrays
 
+-- where the rows begin, the first paths and the lengths
+pub record Arrays : Type 0 where
+  pub base : List ℕ
+  pub first : List ℕ
+  pub len : List ℕ
+
+abbrev pub arrays : List ℕ → List ℕ → List ℕ → Arrays
+arrays base first len = record { base = base; first = first; len = len }
+
+pub record Sized (a : Arrays) : Type 0 where
+  pub baseLength : length (a .base) ≡ mostHigher
+  pub firstLength : length (a .first) ≡ mostHigher
+  pub lenLength : length (a .len) ≡ mostHigher
+
 abbrev pub paired : List ℕ → List ℕ → List Range
 paired [] ls = []
 paired (f ∷ fs) [] = []
 paired (f ∷ fs) (l ∷ ls) = range f l ∷ paired fs ls
 
--- the group that two arrays hold
-abbrev pub groupIn : ℕ → List ℕ → List ℕ → List Range
-groupIn h first len = take h (paired first len)
+-- the group that the arrays hold
+abbrev pub groupIn : ℕ → Arrays → List Range
+groupIn h a = take h (paired (a .first) (a .len))
 
--- the arrays hold the group xs, and where its rows begin
-pub record Holds (h d : ℕ) (root base first len : List ℕ) (xs : List Range) : Type 0 where
-  pub baseLength : length base ≡ mostHigher
-  pub firstLength : length first ≡ mostHigher
-  pub lenLength : length len ≡ mostHigher
-  pub group : groupIn h first len ≡ xs
-  pub starts : take h base ≡ rowStarts d (take h root) xs
+-- it is xs, and they hold where its rows begin
+pub record Holds (h d : ℕ) (root : List ℕ) (a : Arrays) (xs : List Range) : Type 0 where
+  pub sized : Sized a
+  pub group : groupIn h a ≡ xs
+  pub starts : take h (a .base) ≡ rowStarts d (take h root) xs
 
 -- ---- what is asked
 
@@ -45,19 +57,19 @@ pub record Stretches (room h d : ℕ) (root count : List ℕ) : Type 0 where
   pub within : (j : ℕ) → j < h → getD root j 0 + rowsFor (getD count j 0) * d ≤ room
 
 -- the arrays hold a group of the walk, and no index is too large
-pub record Standing (h d : ℕ) (root count base first len : List ℕ) : Type 0 where
+pub record Standing (h d : ℕ) (root count : List ℕ) (a : Arrays) : Type 0 where
   pub stretches : Stretches largestIndex h d root count
-  pub holds : Holds h d root base first len (groupIn h first len)
-  pub reached : InWalk (take h count) (groupIn h first len)
+  pub holds : Holds h d root a (groupIn h a)
+  pub reached : InWalk (take h count) (groupIn h a)
 
 -- ---- what is promised
 
--- the arrays now hold the group xs; the cells that do not count are unchanged
-pub record Stands (h d : ℕ) (root base first len base′ first′ len′ : List ℕ) (xs : List Range) : Type 0 where
-  pub holds : Holds h d root base′ first′ len′ xs
-  pub bases : drop h base′ ≡ drop h base
-  pub firsts : drop h first′ ≡ drop h first
-  pub lens : drop h len′ ≡ drop h len
+-- the arrays a became b, which hold the group xs; the cells that do not count are unchanged
+pub record Stands (h d : ℕ) (root : List ℕ) (a b : Arrays) (xs : List Range) : Type 0 where
+  pub holds : Holds h d root b xs
+  pub bases : drop h (b .base) ≡ drop h (a .base)
+  pub firsts : drop h (b .first) ≡ drop h (a .first)
+  pub lens : drop h (b .len) ≡ drop h (a .len)
 
 abbrev pub isThere : Option (List Range) → Bool
 isThere none = false
@@ -68,16 +80,14 @@ orElse none xs = xs
 orElse (some ys) xs = ys
 
 -- told whether there is a group to go to, and the arrays hold it; where there is none, they hold the group xs
-pub record Moved (to : Option (List Range)) (xs : List Range) (h d : ℕ) (root base first len : List ℕ) (told : Bool) (base′ first′ len′ : List ℕ) : Type 0 where
+pub record Moved (to : Option (List Range)) (xs : List Range) (h d : ℕ) (root : List ℕ) (a : Arrays) (told : Bool) (b : Arrays) : Type 0 where
   pub says : told ≡ isThere to
-  pub stands : Stands h d root base first len base′ first′ len′ (orElse to xs)
+  pub stands : Stands h d root a b (orElse to xs)
 
 -- the first child, if there is one; else the group stays
-abbrev pub ToChild : ℕ → ℕ → List ℕ → List ℕ → List ℕ → List ℕ → Bool → List ℕ → List ℕ → Type 0
-ToChild h d root base first len told base′ len′ =
-    Moved (childGroup (groupIn h first len)) (groupIn h first len) h d root base first len told base′ first len′
+abbrev pub ToChild : ℕ → ℕ → List ℕ → Arrays → Bool → Arrays → Type 0
+ToChild h d root a told b = Moved (childGroup (groupIn h a)) (groupIn h a) h d root a told b
 
 -- the next group, if there is one; else the top group
-abbrev pub ToNext : ℕ → ℕ → List ℕ → List ℕ → List ℕ → List ℕ → List ℕ → Bool → List ℕ → List ℕ → List ℕ → Type 0
-ToNext h d root count base first len told base′ first′ len′ =
-    Moved (nextGroup (take h count) (groupIn h first len)) (topGroup (take h count)) h d root base first len told base′ first′ len′
+abbrev pub ToNext : ℕ → ℕ → List ℕ → List ℕ → Arrays → Bool → Arrays → Type 0
+ToNext h d root count a told b = Moved (nextGroup (take h count) (groupIn h a)) (topGroup (take h count)) h d root a told b

@@ -9,11 +9,11 @@ use rows::rest_length;
 use rows::top_row;
 ghost use mathlib.Core.Path.{_≡_};
 ghost use Prim.Native.Nat.{_+_, _≤_};
-ghost use lib.ListN.{length, take};
-ghost use Rattle.meaning.specs.Bounds.{largestD, mostHigher, mostPaths};
+ghost use lib.ListN.{take};
+ghost use Rattle.meaning.specs.Bounds.{largestD, mostPaths};
 ghost use Rattle.rows.specs.Ranges.{range, rowStart};
 ghost use Rattle.groups.specs.Groups.{topGroup};
-ghost use Rattle.groups.specs.Lent.{largestIndex, Stretches, Standing, Stands, ToChild, ToNext};
+ghost use Rattle.groups.specs.Lent.{arrays, Sized, largestIndex, Stretches, Standing, Stands, ToChild, ToNext};
 
 // Where the row of the n paths from place first on begins.
 fn row_start(root: usize, first: usize, n: usize, d: usize) -> usize
@@ -34,8 +34,8 @@ pub fn top_group(
     h: usize,
     d: usize,
 )
-    requires { ⌜ Stretches largestIndex h d (now root) (now count) × (length (now base) ≡ mostHigher) × (length (now first) ≡ mostHigher) × (length (now len) ≡ mostHigher) ⌝ }
-    ensures { λ _. ⌜ Stands h d (now (root .entry)) (now (base .entry)) (now (first .entry)) (now (len .entry)) (now (base .exit)) (now (first .exit)) (now (len .exit)) (topGroup (take h (now (count .entry)))) ⌝ }
+    requires { ⌜ Stretches largestIndex h d (now root) (now count) × Sized (arrays (now base) (now first) (now len)) ⌝ }
+    ensures { λ _. ⌜ Stands h d (now (root .entry)) (arrays (now (base .entry)) (now (first .entry)) (now (len .entry))) (arrays (now (base .exit)) (now (first .exit)) (now (len .exit))) (topGroup (take h (now (count .entry)))) ⌝ }
 {
     let mut j: usize = 0;
     while j < h {
@@ -58,8 +58,8 @@ pub fn first_child(
     h: usize,
     d: usize,
 ) -> bool
-    requires { ⌜ Standing h d (now root) (now count) (now base) (now first) (now len) ⌝ }
-    ensures { λ r. ⌜ ToChild h d (now (root .entry)) (now (base .entry)) (now (first .entry)) (now (len .entry)) r (now (base .exit)) (now (len .exit)) ⌝ }
+    requires { ⌜ Standing h d (now root) (now count) (arrays (now base) (now first) (now len)) ⌝ }
+    ensures { λ r. ⌜ ToChild h d (now (root .entry)) (arrays (now (base .entry)) (now (first .entry)) (now (len .entry))) r (arrays (now (base .exit)) (now (first .entry)) (now (len .exit))) ⌝ }
 {
     let mut j: usize = 0;
     while j < h {
@@ -87,8 +87,8 @@ pub fn next_group(
     h: usize,
     d: usize,
 ) -> bool
-    requires { ⌜ Standing h d (now root) (now count) (now base) (now first) (now len) ⌝ }
-    ensures { λ r. ⌜ ToNext h d (now (root .entry)) (now (count .entry)) (now (base .entry)) (now (first .entry)) (now (len .entry)) r (now (base .exit)) (now (first .exit)) (now (len .exit)) ⌝ }
+    requires { ⌜ Standing h d (now root) (now count) (arrays (now base) (now first) (now len)) ⌝ }
+    ensures { λ r. ⌜ ToNext h d (now (root .entry)) (now (count .entry)) (arrays (now (base .entry)) (now (first .entry)) (now (len .entry))) r (arrays (now (base .exit)) (now (first .exit)) (now (len .exit))) ⌝ }
 {
     let mut j: usize = h;
     while 0 < j {

@@ -12,7 +12,8 @@ use Rattle.meaning.specs.Bounds.{mostHigher}
 use Rattle.walk.specs.Lent.{Walkable}
 use Rattle.walk.specs.Told.{sizes, chosen, RowsHold, Says}
 use Rattle.groups.proofs.Pending.{filled-top}
-use Rattle.walk.proofs.Running.{counts-filled, run-places}
+use Rattle.groups.proofs.Stretches.{counts-filled}
+use Rattle.walk.proofs.Running.{run-places}
 use Rattle.walk.proofs.Paths.{overloads-are}
 use Rattle.walk.proofs.Same.{run-says}
 

@@ -5,7 +5,7 @@ use mathlib.Core.List.{List}
 use lib.ListN.{length, take, getD}
 use Rattle.rows.specs.Order.{Node}
 use Rattle.rows.specs.Ranges.{range, rowStart}
-use Rattle.groups.specs.Lent.{groupIn, Stretches, Stands}
+use Rattle.groups.specs.Lent.{Arrays, groupIn, Stretches, Stands}
 use Rattle.overload.specs.Rows.{light}
 use Rattle.walk.specs.declared.Examined.{Examined}
 use Rattle.walk.specs.Steps.{Step, examine, groupOverloads}
@@ -19,11 +19,10 @@ pub record Walkable (h d e : ℕ) (root count work : List ℕ) : Type 0 where
       → getD work (rowStart d (getD root j 0) (range f m) + t) 0 ≤ getD work (rowStart d (getD root j 0) (range f m) + suc t) 0
 
 -- the step that is said, and the arrays hold its group
-pub record Stepped (to : Step) (h d : ℕ) (root base first len : List ℕ) (told : Examined) (base′ first′ len′ : List ℕ) : Type 0 where
+pub record Stepped (to : Step) (h d : ℕ) (root : List ℕ) (a : Arrays) (told : Examined) (b : Arrays) : Type 0 where
   pub says : told ≡ to .told
-  pub stands : Stands h d root base first len base′ first′ len′ (to .group)
+  pub stands : Stands h d root a b (to .group)
 
 -- the group that the arrays hold is examined by its rows
-abbrev pub StepsOver : ℕ → ℕ → ℕ → List ℕ → List ℕ → List ℕ → List ℕ → List ℕ → List ℕ → Examined → List ℕ → List ℕ → List ℕ → Type 0
-StepsOver h d e work root count base first len told base′ first′ len′ =
-    Stepped (examine (groupOverloads work d e (take h root)) (take h count) (groupIn h first len)) h d root base first len told base′ first′ len′
+abbrev pub StepsOver : ℕ → ℕ → ℕ → List ℕ → List ℕ → List ℕ → Arrays → Examined → Arrays → Type 0
+StepsOver h d e work root count a told b = Stepped (examine (groupOverloads work d e (take h root)) (take h count) (groupIn h a)) h d root a told b

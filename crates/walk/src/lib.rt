@@ -14,7 +14,7 @@ use groups::top_group;
 use overload::overloads;
 ghost use mathlib.Core.Path.{_≡_};
 ghost use lib.ListN.{take};
-ghost use Rattle.groups.specs.Lent.{Standing};
+ghost use Rattle.groups.specs.Lent.{arrays, Standing};
 ghost use Rattle.walk.specs.Lent.{Walkable, StepsOver};
 ghost use Rattle.walk.specs.Steps.{runRows};
 
@@ -50,8 +50,8 @@ fn step(
     d: usize,
     e: u32,
 ) -> Examined
-    requires { ⌜ Walkable h d e (now root) (now count) (now work) × Standing h d (now root) (now count) (now base) (now first) (now len) ⌝ }
-    ensures { λ r. ⌜ StepsOver h d e (now (work .entry)) (now (root .entry)) (now (count .entry)) (now (base .entry)) (now (first .entry)) (now (len .entry)) r (now (base .exit)) (now (first .exit)) (now (len .exit)) ⌝ }
+    requires { ⌜ Walkable h d e (now root) (now count) (now work) × Standing h d (now root) (now count) (arrays (now base) (now first) (now len)) ⌝ }
+    ensures { λ r. ⌜ StepsOver h d e (now (work .entry)) (now (root .entry)) (now (count .entry)) (arrays (now (base .entry)) (now (first .entry)) (now (len .entry))) r (arrays (now (base .exit)) (now (first .exit)) (now (len .exit))) ⌝ }
 {
     if overloads(work, base, h, d, e) {
         if first_child(root, count, base, first, len, h, d) {

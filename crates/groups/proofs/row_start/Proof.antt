@@ -5,7 +5,7 @@ use Rattle.meaning.specs.Bounds.{largestD, mostPaths}
 use Rattle.rows.specs.Ranges.{rowStart}
 use Rattle.rows.specs.Order.{topRow}
 use Rattle.groups.specs.Lent.{largestIndex}
-use Rattle.groups.proofs.RowPlaces.{top-small, row-small}
+use Rattle.rows.proofs.Order.{top-small, row-small}
 use borrow.Author.Needs.{needs}
 use Rattle.groups.proofs.row_start.Statement.{statement}
 use Rattle.groups.proofs.row_start.Tie as tie
@@ -17,14 +17,25 @@ top-row-requires : tie.Need-top-row-requires
 top-row-requires c κs = search needs
 
 add-row : tie.Need-add-row
-add-row c = let s = c .before .args in let r : c .top-row .result ≡ topRow (s .n) = c .top-row .ensures in omega (arith, top-small (s .n))
+add-row c =
+    let s = c .before .args in
+    let r : c .top-row .result ≡ topRow (s .n) = c .top-row .ensures in
+    omega (arith, top-small (s .n))
 
 mul-result : tie.Need-mul-result
-mul-result c = let s = c .before .args in let r : c .top-row .result ≡ topRow (s .n) = c .top-row .ensures in let k : (2 * s .first + c .top-row .result) * s .d ≤ 2 * mostPaths * largestD = rw r (row-small (s .first) (s .n) (s .d) (omega arith) (omega arith)) in omega arith
+mul-result c =
+    let s = c .before .args in
+    let r : c .top-row .result ≡ topRow (s .n) = c .top-row .ensures in
+    let k : (2 * s .first + c .top-row .result) * s .d ≤ 2 * mostPaths * largestD = rw r (row-small (s .first) (s .n) (s .d) (omega arith) (omega arith)) in
+    omega arith
 
 add-result : tie.Need-add-result
 unfolding rowStart
-add-result c = let s = c .before .args in let r : c .top-row .result ≡ topRow (s .n) = c .top-row .ensures in let k : s .root + (2 * s .first + c .top-row .result) * s .d ≤ largestIndex = rw r (c .before .pre .2) in omega arith
+add-result c =
+    let s = c .before .args in
+    let r : c .top-row .result ≡ topRow (s .n) = c .top-row .ensures in
+    let k : s .root + (2 * s .first + c .top-row .result) * s .d ≤ largestIndex = rw r (c .before .pre .2) in
+    omega arith
 
 returns : tie.Need-returns
 unfolding rowStart

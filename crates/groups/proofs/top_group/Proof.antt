@@ -2,19 +2,20 @@ use native.Mathlib.Omega.{arith}
 use mathlib.Core.Path.{refl}
 use Prim.Native.Nat.{_≤_, _-_}
 use Rattle.rows.specs.Order.{top}
-use Rattle.groups.proofs.RowPlaces.{row-asked}
+use Rattle.groups.proofs.Stretches.{row-asked}
+use Rattle.groups.specs.Lent.{arrays}
 use Rattle.groups.proofs.TopGroup.{Begun, top-none, top-more, top-all}
 use Rattle.groups.proofs.top_group.Statement.{statement}
 use Rattle.groups.proofs.top_group.Tie as tie
 
 abbrev Inv-loop : tie.InvT-loop
-Inv-loop root count base₀ first₀ len₀ h d j₀ base first len j = (j ≤ h) × Begun h d root count base₀ first₀ len₀ base first len j
+Inv-loop root count base₀ first₀ len₀ h d j₀ base first len j = (j ≤ h) × Begun h d root count (arrays base₀ first₀ len₀) (arrays base first len) j
 
 abbrev μ-loop : tie.MeasureT-loop
 μ-loop root count base₀ first₀ len₀ h d j₀ base first len j = h - j
 
 loop-holds : tie.Need-loop-holds Inv-loop μ-loop
-loop-holds c = (omega arith, top-none (c .pre .1) (c .pre .2) (c .pre .3))
+loop-holds c = (omega arith, top-none (c .pre .1))
 
 mul-c : tie.Need-mul-c Inv-loop μ-loop
 mul-c c = omega arith
@@ -29,7 +30,9 @@ element-copy-out-row-start : tie.Need-element-copy-out-row-start Inv-loop μ-loo
 element-copy-out-row-start c = omega arith
 
 row-start-requires : tie.Need-row-start-requires Inv-loop μ-loop
-row-start-requires c κs = let l = c .before .before .before in row-asked (l .before .pre .0) (l .loop .j) (omega arith) (top refl refl)
+row-start-requires c κs =
+    let l = c .before .before .before in
+    row-asked (l .before .pre .0) (l .loop .j) (omega arith) (top refl refl)
 
 mul-base : tie.Need-mul-base Inv-loop μ-loop
 mul-base c = omega arith
@@ -56,7 +59,9 @@ loop-less : tie.Need-loop-less Inv-loop μ-loop
 loop-less c = omega arith
 
 loop-again : tie.Need-loop-again Inv-loop μ-loop
-loop-again c = let l = c .before .before .before .before in (omega arith, top-more (l .before .pre .0) (omega arith) (l .loop .inv .1) (c .row-start .result) (c .row-start .ensures))
+loop-again c =
+    let l = c .before .before .before .before in
+    (omega arith, top-more (l .before .pre .0) (omega arith) (l .loop .inv .1) (c .row-start .result) (c .row-start .ensures))
 
 returns : tie.Need-returns Inv-loop μ-loop
 returns c = top-all (omega arith) (c .before .loop .inv .1)
