@@ -9,7 +9,7 @@ use Rattle.rows.specs.Ranges.{Range, range, rowStart}
 use Rattle.groups.specs.Groups.{firsts, InWalk, rowStarts}
 use Rattle.rows.specs.Order.{Node}
 use Rattle.meaning.specs.Bounds.{mostHigher}
-use Rattle.groups.specs.Lent.{Arrays, arrays, Sized, paired, groupIn, Holds, Standing, Stands}
+use Rattle.groups.specs.Lent.{Arrays, arrays, putRange, Sized, paired, groupIn, Holds, Standing, Stands}
 use Rattle.rows.proofs.Order.{node-in, node-pos}
 
 -- what is read where there is no range
@@ -67,14 +67,10 @@ module _ {a : Arrays} (s : Sized a) where
     pub group-get : (j : ℕ) → j < h → getD (groupIn h a) j noRange ≡ range (getD (a .first) j 0) (getD (a .len) j 0)
     group-get j l = getD-take h (paired (a .first) (a .len)) j noRange l ∙ paired-get (a .first) (a .len) j even
 
--- the range of task j is written, and where its row begins
-abbrev pub put : Arrays → ℕ → ℕ → Range → Arrays
-put a j v x = arrays (set (a .base) j v) (set (a .first) j (x .first)) (set (a .len) j (x .len))
-
-pub put-sized : {a : Arrays} → Sized a → (j v : ℕ) (x : Range) → Sized (put a j v x)
-put-sized {a} s j v x =
+pub put-sized : {a : Arrays} → Sized a → (d root j : ℕ) (x : Range) → Sized (putRange d root a j x)
+put-sized {a} s d root j x =
     record {
-      baseLength = length-set (a .base) j v ∙ s .baseLength;
+      baseLength = length-set (a .base) j (rowStart d root x) ∙ s .baseLength;
       firstLength = length-set (a .first) j (x .first) ∙ s .firstLength;
       lenLength = length-set (a .len) j (x .len) ∙ s .lenLength;
     }
@@ -88,38 +84,40 @@ module _ {h d : ℕ} {root : List ℕ} {a : Arrays} {xs : List Range} (w : Holds
   pub holds-own : Holds h d root a (groupIn h a)
   holds-own = subst (Holds h d root a) (sym (w .group)) w
 
-  holds-put : (j v : ℕ) (x : Range) → j < h → v ≡ rowStart d (getD root j 0) x → Holds h d root (put a j v x) (set xs j x)
-  holds-put j v x l e =
+  holds-put : (j : ℕ) (x : Range) → j < h → Holds h d root (putRange d (getD root j 0) a j x) (set xs j x)
+  holds-put j x l =
+      let v = rowStart d (getD root j 0) x in
       record {
-        sized = put-sized (w .sized) j v x;
+        sized = put-sized (w .sized) d (getD root j 0) j x;
         group =
             ap (take h) (paired-set (a .first) (a .len) j (x .first) (x .len) (even (w .sized)))
             ∙ take-set-lt h (paired (a .first) (a .len)) j x l ∙ ap (λ (z : List Range). set z j x) (w .group);
         starts =
             take-set-lt h (a .base) j v l ∙ ap (λ (z : List ℕ). set z j v) (w .starts)
-            ∙ ap (set (rowStarts d (take h root) xs) j) (e ∙ ap (λ (r : ℕ). rowStart d r x) (sym (getD-take h root j 0 l)))
+            ∙ ap (λ (r : ℕ). set (rowStarts d (take h root) xs) j (rowStart d r x)) (sym (getD-take h root j 0 l))
             ∙ sym (starts-set d (take h root) xs j x);
       }
 
 pub stands-start : {h d : ℕ} {root : List ℕ} {a : Arrays} {xs : List Range} → Holds h d root a xs → Stands h d root a a xs
 stands-start w = record { holds = w; bases = refl; firsts = refl; lens = refl }
 
-module _ {h d : ℕ} {root : List ℕ} {a b : Arrays} {xs : List Range} (w : Stands h d root a b xs) (j v : ℕ) (l : j < h) where
-  pub stands-put : (x : Range) → v ≡ rowStart d (getD root j 0) x → Stands h d root a (put b j v x) (set xs j x)
-  stands-put x e =
+module _ {h d : ℕ} {root : List ℕ} {a b : Arrays} {xs : List Range} (w : Stands h d root a b xs) (j : ℕ) (l : j < h) where
+  pub stands-put : (x : Range) → Stands h d root a (putRange d (getD root j 0) b j x) (set xs j x)
+  stands-put x =
       record {
-        holds = holds-put (w .holds) j v x l e;
-        bases = drop-set-lt h (b .base) j v l ∙ w .bases;
+        holds = holds-put (w .holds) j x l;
+        bases = drop-set-lt h (b .base) j (rowStart d (getD root j 0) x) l ∙ w .bases;
         firsts = drop-set-lt h (b .first) j (x .first) l ∙ w .firsts;
         lens = drop-set-lt h (b .len) j (x .len) l ∙ w .lens;
       }
 
   -- the range stays where it begins
-  pub stands-cut : (n : ℕ) → v ≡ rowStart d (getD root j 0) (range (getD (b .first) j 0) n)
+  pub stands-cut : (n v : ℕ) → v ≡ rowStart d (getD root j 0) (range (getD (b .first) j 0) n)
       → Stands h d root a (arrays (set (b .base) j v) (b .first) (set (b .len) j n)) (set xs j (range (getD (b .first) j 0) n))
-  stands-cut n e =
-      subst (λ (z : List ℕ). Stands h d root a (arrays (set (b .base) j v) z (set (b .len) j n)) (set xs j (range (getD (b .first) j 0) n)))
-      (set-getD (b .first) j 0) (stands-put (range (getD (b .first) j 0) n) e)
+  stands-cut n v e =
+      subst (λ (z : Arrays). Stands h d root a z (set xs j (range (getD (b .first) j 0) n)))
+      (ap₂ (λ (z : List ℕ) (r : ℕ). arrays (set (b .base) j r) z (set (b .len) j n)) (set-getD (b .first) j 0) (sym e))
+      (stands-put (range (getD (b .first) j 0) n))
 
 -- ---- a range of a group of the walk
 

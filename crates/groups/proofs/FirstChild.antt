@@ -13,7 +13,7 @@ use Rattle.rows.specs.Ranges.{Range, range, firstHalf, rowStart}
 use Rattle.groups.specs.Groups.{allSingle, firstChild}
 use Rattle.groups.specs.Lent.{Arrays, arrays, groupIn, largestIndex, Standing, Stands, ToChild}
 use Rattle.rows.proofs.Halving.{node-first-half}
-use Rattle.groups.proofs.Stretches.{row-asked}
+use Rattle.groups.proofs.LaidOut.{row-asked}
 use Rattle.groups.proofs.Arrays.{noRange, stands-start, stands-cut, own-length, own-get, standing-at}
 
 child-at : (xs : List Range) (j : ℕ) → j < length xs → ((k : ℕ) → k < j → getD xs k noRange .len ≤ 1) → 1 < getD xs j noRange .len
@@ -49,7 +49,7 @@ module _ {h d : ℕ} {root count : List ℕ} {a : Arrays} (w : Standing h d root
     child-found v s e =
         let i = child-at xs j (omega (arith, own-length w)) (λ k p. omega (arith, s k p, len-at k (omega arith))) (omega (arith, len-at j l)) in
         let g : set xs j cut ≡ firstChild xs = ap (set xs j) (ap (range (getD (a .first) j 0)) is ∙ ap firstHalf (sym (own-get w j l))) ∙ sym (i .0) in
-        let stands = stands-cut (stands-start (w .holds)) j v l c e in
+        let stands = stands-cut (stands-start (w .holds)) j l c v e in
         rw (i .1) record { says = refl; stands = subst (Stands h d root a (arrays (set (a .base) j v) (a .first) (set (a .len) j c))) g stands }
 
   pub child-none : ((k : ℕ) → k < h → getD (a .len) k 0 ≤ 1) → ToChild h d root a false a

@@ -9,15 +9,15 @@ use mathlib.Core.List.{List, [], _∷_, _++_, append-nil, append-assoc}
 use lib.ListN.{length, take, drop, getD, set, drop-of-length-le, List·getD-append}
 use lib.Seq.{getD-take, length-take-le, take-suc, set-at, take-all, drop-cons}
 use borrow.Author.Tests.{lt-ltb, le-ltb}
-use Rattle.meaning.specs.Bounds.{largestD, mostPaths}
+use Rattle.meaning.specs.Bounds.{largestD, mostHigher, mostPaths}
 use mathlib.Core.Bool.{true, false}
 use Rattle.rows.specs.Ranges.{Range, range, endOf, restLength, rowStart}
 use Rattle.groups.specs.Groups.{topGroup, nextGroup}
-use Rattle.rows.specs.Order.{top}
-use Rattle.groups.specs.Lent.{Arrays, groupIn, largestIndex, Standing, Stands, ToNext}
+use Rattle.rows.specs.Order.{Node, top}
+use Rattle.groups.specs.Lent.{Arrays, Sized, putRange, groupIn, largestIndex, Standing, Stands, ToNext}
 use Rattle.rows.proofs.Halving.{rest-next}
-use Rattle.groups.proofs.Stretches.{row-asked}
-use Rattle.groups.proofs.Arrays.{noRange, group-get, put, stands-start, stands-put, own-length, own-get, standing-at}
+use Rattle.groups.proofs.LaidOut.{row-asked}
+use Rattle.groups.proofs.Arrays.{noRange, group-get, stands-start, stands-put, own-length, own-get, standing-at}
 
 -- ---- over lists
 
@@ -90,10 +90,14 @@ module _ {h d : ℕ} {root count : List ℕ} {a : Arrays} (w : Standing h d root
       record { low = omega arith; stands = subst (Stands h d root a a) all (stands-start (w .holds)); ended = λ k p q. absurd (omega arith) }
 
   module _ {b : Arrays} where
-    pub back-from : {j : ℕ} → 0 < j → Back h d root count a b j → Back h d root count a b (suc (j - 1))
-    back-from {j} l k = let e : suc (j - 1) ≡ j = omega arith in rw e k
+    module _ {j : ℕ} (some-left : 0 < j) (back : Back h d root count a b j) where
+      -- the task that is looked at
+      abbrev i : ℕ
+      i = j - 1
 
-    module _ {i : ℕ} (k : Back h d root count a b (suc i)) where
+      k : Back h d root count a b (suc i)
+      k = let e : suc (j - 1) ≡ j = omega arith in rw e back
+
       -- the place behind the range at i
       abbrev s : ℕ
       s = getD (b .first) i 0 + getD (b .len) i 0
@@ -120,35 +124,43 @@ module _ {h d : ℕ} {root count : List ℕ} {a : Arrays} (w : Standing h d root
           let e : s ≡ getD (a .first) i 0 + getD (a .len) i 0 = end-is ∙ end-at i in-h in
           (e, omega arith, omega arith, w .stretches .paths i in-h .1)
 
-      pub back-asks : s < n → (m : ℕ) → m ≡ restLength 0 n s → (s + m ≤ mostPaths) × (d ≤ largestD) × (rowStart d (getD root i 0) (range s m) ≤ largestIndex)
-      back-asks l m e = row-asked (w .stretches) i in-h (rw e (rest-next n s (back-end .1) l .node))
+      -- what is asked where a range is written
+      abbrev Asks : Range → Type 0
+      Asks x = (x .first + x .len ≤ mostPaths) × (d ≤ largestD) × (rowStart d (getD root i 0) x ≤ largestIndex) × (i < mostHigher) × Sized b
 
-      pub back-asks-whole : (0 + n ≤ mostPaths) × (d ≤ largestD) × (rowStart d (getD root i 0) (range 0 n) ≤ largestIndex)
-      back-asks-whole = row-asked (w .stretches) i in-h (top refl refl)
+      asks : {f m : ℕ} → Node 0 n f m → Asks (range f m)
+      asks x = let r = row-asked (w .stretches) i in-h x in (r .0, r .1, r .2, omega (arith, in-h, w .stretches .few), k .stands .holds .sized)
 
-      ended-behind : (j : ℕ) → i < j → j < length xs → getD ns j 0 ≤ endOf (getD xs j noRange)
-      ended-behind j p q = ended-at j q (k .ended j (omega arith) (omega (arith, own-length w)))
+      pub back-asks : s < n → (m : ℕ) → m ≡ restLength 0 n s → Asks (range s m)
+      back-asks l m e = asks (rw e (rest-next n s (back-end .1) l .node))
 
-      pub back-found : (m v : ℕ) → s < n → m ≡ restLength 0 n s → v ≡ rowStart d (getD root i 0) (range s m)
-          → ToNext h d root count a true (put b i v (range s m))
-      back-found m v l e f =
-          let c : getD ns i 0 ≡ n = getD-take h count i 0 in-h in
-          let x : range s m ≡ behind (getD ns i 0) (getD xs i noRange) = ap₂ range end-is (e ∙ ap₂ (restLength 0) (sym c) end-is) in
-          let g : nextGroup ns xs ≡ some (set (wholeFrom ns xs (suc i)) i (range s m)) =
-          next-at ns xs i (long-ns ∙ sym (own-length w)) in-xs ended-behind (omega (arith, end-is, c))
-          ∙ ap some (sym (ap (set (wholeFrom ns xs (suc i)) i) x ∙ whole-set ns xs i in-xs (behind (getD ns i 0) (getD xs i noRange)))) in
-          rw g record { says = refl; stands = stands-put (k .stands) i v in-h (range s m) f }
+      pub back-asks-whole : Asks (range 0 n)
+      back-asks-whole = asks (top refl refl)
 
-      pub back-more : (v : ℕ) → n ≤ s → v ≡ rowStart d (getD root i 0) (range 0 n) → Back h d root count a (put b i v (range 0 n)) i
-      back-more v l f =
-          let c : getD ns i 0 ≡ n = getD-take h count i 0 in-h in
-          let g : set (wholeFrom ns xs (suc i)) i (range 0 n) ≡ wholeFrom ns xs i =
-          ap (λ (z : ℕ). set (wholeFrom ns xs (suc i)) i (range 0 z)) (sym c) ∙ whole-back ns xs i in-xs (omega (arith, in-h, long-ns)) in
-          record {
-            low = omega (arith, in-h);
-            stands = subst (Stands h d root a (put b i v (range 0 n))) g (stands-put (k .stands) i v in-h (range 0 n) f);
-            ended = λ j p q. ⊎-elim (λ (z : i ≡ j). rw (← z) (omega (arith, back-end))) (λ z. k .ended j (omega arith) q) (eq-or-lt-of-le p);
-          }
+      ended-behind : (m : ℕ) → i < m → m < length xs → getD ns m 0 ≤ endOf (getD xs m noRange)
+      ended-behind m p q = ended-at m q (k .ended m (omega arith) (omega (arith, own-length w)))
+
+      -- the arrays c once the range is written
+      module _ {c : Arrays} where
+        pub back-found : (m : ℕ) → s < n → m ≡ restLength 0 n s → c ≡ putRange d (getD root i 0) b i (range s m) → ToNext h d root count a true c
+        back-found m l e f =
+            let q : getD ns i 0 ≡ n = getD-take h count i 0 in-h in
+            let x : range s m ≡ behind (getD ns i 0) (getD xs i noRange) = ap₂ range end-is (e ∙ ap₂ (restLength 0) (sym q) end-is) in
+            let g : nextGroup ns xs ≡ some (set (wholeFrom ns xs (suc i)) i (range s m)) =
+            next-at ns xs i (long-ns ∙ sym (own-length w)) in-xs ended-behind (omega (arith, end-is, q))
+            ∙ ap some (sym (ap (set (wholeFrom ns xs (suc i)) i) x ∙ whole-set ns xs i in-xs (behind (getD ns i 0) (getD xs i noRange)))) in
+            rw (g, f) record { says = refl; stands = stands-put (k .stands) i in-h (range s m) }
+
+        pub back-more : n ≤ s → c ≡ putRange d (getD root i 0) b i (range 0 n) → Back h d root count a c i
+        back-more l f =
+            let q : getD ns i 0 ≡ n = getD-take h count i 0 in-h in
+            let g : set (wholeFrom ns xs (suc i)) i (range 0 n) ≡ wholeFrom ns xs i =
+            ap (λ (z : ℕ). set (wholeFrom ns xs (suc i)) i (range 0 z)) (sym q) ∙ whole-back ns xs i in-xs (omega (arith, in-h, long-ns)) in
+            record {
+              low = omega (arith, in-h);
+              stands = rw f (subst (Stands h d root a (putRange d (getD root i 0) b i (range 0 n))) g (stands-put (k .stands) i in-h (range 0 n)));
+              ended = λ m p z. ⊎-elim (λ (y : i ≡ m). rw (← y) (omega (arith, back-end))) (λ y. k .ended m (omega arith) z) (eq-or-lt-of-le p);
+            }
 
     pub back-none : {j : ℕ} → j ≡ 0 → Back h d root count a b j → ToNext h d root count a false b
     back-none e k =

@@ -1,6 +1,6 @@
 -- The top group is written range by range. Assumes nothing.
 use mathlib.Core.Path.{_≡_, refl, sym, ap, ap₂, subst, _∙_}
-use Prim.Native.Nat.{ℕ, suc, _+_, _<_}
+use Prim.Native.Nat.{ℕ, suc, _+_, _≤_, _<_}
 use native.Mathlib.Omega.{arith}
 use native.Mathlib.Numerals.{add-one}
 use mathlib.Core.List.{List, [], _∷_, _++_}
@@ -8,9 +8,11 @@ use lib.ListN.{length, take, drop, getD}
 use lib.Seq.{take-suc, take-suc-set, drop-set-lt, length-take-le}
 use Rattle.rows.specs.Ranges.{Range, range, rowStart}
 use Rattle.groups.specs.Groups.{topGroup, rowStarts}
-use Rattle.meaning.specs.Bounds.{mostHigher}
-use Rattle.groups.specs.Lent.{Arrays, Sized, paired, Holds, Stretches, Stands}
-use Rattle.groups.proofs.Arrays.{paired-length, paired-set, even, put, put-sized}
+use Rattle.meaning.specs.Bounds.{largestD, mostHigher, mostPaths}
+use Rattle.rows.specs.Order.{top}
+use Rattle.groups.proofs.LaidOut.{row-asked}
+use Rattle.groups.specs.Lent.{Arrays, Sized, putRange, largestIndex, paired, Holds, LaidOut, Stands}
+use Rattle.groups.proofs.Arrays.{paired-length, paired-set, even, put-sized}
 
 top-append : (ns ms : List ℕ) → topGroup (ns ++ ms) ≡ topGroup ns ++ topGroup ms
 top-append [] ms = refl
@@ -28,17 +30,17 @@ starts-more d (q ∷ rs) [] r x e = absurd (omega arith)
 starts-more d (q ∷ rs) (y ∷ xs) r x e = ap (λ (l : List ℕ). rowStart d q y ∷ l) (starts-more d rs xs r x (omega arith))
 
 -- the first j ranges are written, and the cells from h on are as they were
-pub record Begun (h d : ℕ) (root count : List ℕ) (a b : Arrays) (j : ℕ) : Type 0 where
+pub record TopSoFar (h d : ℕ) (root count : List ℕ) (a b : Arrays) (j : ℕ) : Type 0 where
   pub holds : Holds j d root b (topGroup (take j count))
   pub bases : drop h (b .base) ≡ drop h (a .base)
   pub firsts : drop h (b .first) ≡ drop h (a .first)
   pub lens : drop h (b .len) ≡ drop h (a .len)
 
 module _ {h d : ℕ} {root count : List ℕ} {a : Arrays} where
-  pub top-none : Sized a → Begun h d root count a a 0
+  pub top-none : Sized a → TopSoFar h d root count a a 0
   top-none s = record { holds = record { sized = s; group = refl; starts = refl }; bases = refl; firsts = refl; lens = refl }
 
-  module _ {room : ℕ} (s : Stretches room h d root count) {b : Arrays} {j : ℕ} (l : j < h) (w : Begun h d root count a b j) where
+  module _ (s : LaidOut largestIndex h d root count) {b : Arrays} {j : ℕ} (l : j < h) (w : TopSoFar h d root count a b j) where
     abbrev n : ℕ
     n = getD count j 0
 
@@ -56,21 +58,23 @@ module _ {h d : ℕ} {root count : List ℕ} {a : Arrays} where
         length-take-le j root (omega (arith, in-all, s .rootLength))
         ∙ sym (top-length (take j count) ∙ length-take-le j count (omega (arith, in-all, s .countLength)))
 
-    pub top-more : (v : ℕ) → v ≡ rowStart d (getD root j 0) (range 0 n) → Begun h d root count a (put b j v (range 0 n)) (j + 1)
-    top-more v e =
+    pub top-asks : (0 + n ≤ mostPaths) × (d ≤ largestD) × (rowStart d (getD root j 0) (range 0 n) ≤ largestIndex) × (j < mostHigher) × Sized b
+    top-asks = let r = row-asked s j l (top refl refl) in (r .0, r .1, r .2, in-all, w .holds .sized)
+
+    top-put : TopSoFar h d root count a (putRange d (getD root j 0) b j (range 0 n)) (suc j)
+    top-put =
         let z = w .holds .sized in
         let both = paired-length (b .first) (b .len) (even z) in
-        rw (add-one j)
+        let v = rowStart d (getD root j 0) (range 0 n) in
         record {
           holds = record {
-            sized = put-sized z j v (range 0 n);
+            sized = put-sized z d (getD root j 0) j (range 0 n);
             group =
                 ap (take (suc j)) (paired-set (b .first) (b .len) j 0 n (even z))
                 ∙ take-suc-set (paired (b .first) (b .len)) j (range 0 n) (omega (arith, both, z .firstLength, in-all))
                 ∙ ap (λ (g : List Range). g ++ (range 0 n ∷ [])) (w .holds .group) ∙ sym tops;
             starts =
-                take-suc-set (b .base) j v (omega (arith, z .baseLength, in-all))
-                ∙ ap₂ (λ (g : List ℕ) (m : ℕ). g ++ (m ∷ [])) (w .holds .starts) e
+                take-suc-set (b .base) j v (omega (arith, z .baseLength, in-all)) ∙ ap (λ (g : List ℕ). g ++ (v ∷ [])) (w .holds .starts)
                 ∙ sym (ap₂ (rowStarts d) roots tops ∙ starts-more d (take j root) (topGroup (take j count)) (getD root j 0) (range 0 n) level);
           };
           bases = drop-set-lt h (b .base) j v l ∙ w .bases;
@@ -78,7 +82,10 @@ module _ {h d : ℕ} {root count : List ℕ} {a : Arrays} where
           lens = drop-set-lt h (b .len) j n l ∙ w .lens;
         }
 
-  pub top-all : {b : Arrays} {j : ℕ} → j ≡ h → Begun h d root count a b j → Stands h d root a b (topGroup (take h count))
+    pub top-more : {c : Arrays} → c ≡ putRange d (getD root j 0) b j (range 0 n) → TopSoFar h d root count a c (j + 1)
+    top-more e = rw (add-one j, e) top-put
+
+  pub top-all : {b : Arrays} {j : ℕ} → j ≡ h → TopSoFar h d root count a b j → Stands h d root a b (topGroup (take h count))
   top-all {b} e w =
       record {
         holds = subst (λ (k : ℕ). Holds k d root b (topGroup (take k count))) e (w .holds);

@@ -4,10 +4,10 @@ use Prim.Native.Nat.{ℕ, _+_, _*_, _≤_, _<_}
 use mathlib.Core.Bool.{Bool, true, false}
 use mathlib.Core.Option.{Option, none, some}
 use mathlib.Core.List.{List, [], _∷_}
-use lib.ListN.{length, take, drop, getD}
+use lib.ListN.{length, take, drop, getD, set}
 use Rattle.meaning.specs.Bounds.{largestD, mostHigher, mostPaths}
 use Rattle.meaning.specs.Areas.{rowsFor}
-use Rattle.rows.specs.Ranges.{Range, range}
+use Rattle.rows.specs.Ranges.{Range, range, rowStart}
 use Rattle.groups.specs.Groups.{rowStarts, topGroup, childGroup, nextGroup, InWalk}
 
 -- ---- the arrays
@@ -41,6 +41,10 @@ pub record Holds (h d : ℕ) (root : List ℕ) (a : Arrays) (xs : List Range) : 
   pub group : groupIn h a ≡ xs
   pub starts : take h (a .base) ≡ rowStarts d (take h root) xs
 
+-- the range of task j becomes x, in a stretch that begins at root
+abbrev pub putRange : ℕ → ℕ → Arrays → ℕ → Range → Arrays
+putRange d root a j x = arrays (set (a .base) j (rowStart d root x)) (set (a .first) j (x .first)) (set (a .len) j (x .len))
+
 -- ---- what is asked
 
 -- the largest number of type usize
@@ -48,7 +52,7 @@ abbrev pub largestIndex : ℕ
 largestIndex = 18446744073709551615
 
 -- where each task's stretch begins and how many paths the task has; the stretches end within so many cells
-pub record Stretches (room h d : ℕ) (root count : List ℕ) : Type 0 where
+pub record LaidOut (room h d : ℕ) (root count : List ℕ) : Type 0 where
   pub few : h ≤ mostHigher
   pub short : d ≤ largestD
   pub rootLength : length root ≡ mostHigher
@@ -58,7 +62,7 @@ pub record Stretches (room h d : ℕ) (root count : List ℕ) : Type 0 where
 
 -- the arrays hold a group of the walk, and no index is too large
 pub record Standing (h d : ℕ) (root count : List ℕ) (a : Arrays) : Type 0 where
-  pub stretches : Stretches largestIndex h d root count
+  pub stretches : LaidOut largestIndex h d root count
   pub holds : Holds h d root a (groupIn h a)
   pub reached : InWalk (take h count) (groupIn h a)
 
@@ -75,14 +79,14 @@ abbrev pub isThere : Option (List Range) → Bool
 isThere none = false
 isThere (some ys) = true
 
-abbrev pub orElse : Option (List Range) → List Range → List Range
-orElse none xs = xs
-orElse (some ys) xs = ys
+abbrev pub orStay : Option (List Range) → List Range → List Range
+orStay none xs = xs
+orStay (some ys) xs = ys
 
 -- told whether there is a group to go to, and the arrays hold it; where there is none, they hold the group xs
 pub record Moved (to : Option (List Range)) (xs : List Range) (h d : ℕ) (root : List ℕ) (a : Arrays) (told : Bool) (b : Arrays) : Type 0 where
   pub says : told ≡ isThere to
-  pub stands : Stands h d root a b (orElse to xs)
+  pub stands : Stands h d root a b (orStay to xs)
 
 -- the first child, if there is one; else the group stays
 abbrev pub ToChild : ℕ → ℕ → List ℕ → Arrays → Bool → Arrays → Type 0

@@ -8,12 +8,12 @@ use rows::half;
 use rows::rest_length;
 use rows::top_row;
 ghost use mathlib.Core.Path.{_≡_};
-ghost use Prim.Native.Nat.{_+_, _≤_};
+ghost use Prim.Native.Nat.{_+_, _≤_, _<_};
 ghost use lib.ListN.{take};
-ghost use Rattle.meaning.specs.Bounds.{largestD, mostPaths};
+ghost use Rattle.meaning.specs.Bounds.{largestD, mostHigher, mostPaths};
 ghost use Rattle.rows.specs.Ranges.{range, rowStart};
 ghost use Rattle.groups.specs.Groups.{topGroup};
-ghost use Rattle.groups.specs.Lent.{arrays, Sized, largestIndex, Stretches, Standing, Stands, ToChild, ToNext};
+ghost use Rattle.groups.specs.Lent.{arrays, Sized, putRange, largestIndex, LaidOut, Standing, Stands, ToChild, ToNext};
 
 // Where the row of the n paths from place first on begins.
 fn row_start(root: usize, first: usize, n: usize, d: usize) -> usize
@@ -22,6 +22,26 @@ fn row_start(root: usize, first: usize, n: usize, d: usize) -> usize
 {
     let row = 2 * first + top_row(n);
     root + row * d
+}
+
+// The range of task j becomes the n paths from place f on, in a stretch that begins at root.
+fn put(
+    root: usize,
+    base: &mut PerTask,
+    first: &mut PerTask,
+    len: &mut PerTask,
+    j: usize,
+    f: usize,
+    n: usize,
+    d: usize,
+)
+    requires { ⌜ (f + n ≤ mostPaths) × (d ≤ largestD) × (rowStart d root (range f n) ≤ largestIndex) × (j < mostHigher) × Sized (arrays (now base) (now first) (now len)) ⌝ }
+    ensures { λ _. ⌜ arrays (now (base .exit)) (now (first .exit)) (now (len .exit)) ≡ putRange d root (arrays (now (base .entry)) (now (first .entry)) (now (len .entry))) j (range f n) ⌝ }
+{
+    let b = row_start(root, f, n, d);
+    base[j] = b;
+    first[j] = f;
+    len[j] = n;
 }
 
 // The top group.
@@ -34,16 +54,12 @@ pub fn top_group(
     h: usize,
     d: usize,
 )
-    requires { ⌜ Stretches largestIndex h d (now root) (now count) × Sized (arrays (now base) (now first) (now len)) ⌝ }
+    requires { ⌜ LaidOut largestIndex h d (now root) (now count) × Sized (arrays (now base) (now first) (now len)) ⌝ }
     ensures { λ _. ⌜ Stands h d (now (root .entry)) (arrays (now (base .entry)) (now (first .entry)) (now (len .entry))) (arrays (now (base .exit)) (now (first .exit)) (now (len .exit))) (topGroup (take h (now (count .entry)))) ⌝ }
 {
     let mut j: usize = 0;
     while j < h {
-        let c = count[j];
-        let b = row_start(root[j], 0, c, d);
-        base[j] = b;
-        first[j] = 0;
-        len[j] = c;
+        put(root[j], base, first, len, j, 0, count[j], d);
         j += 1;
     }
 }
@@ -98,16 +114,10 @@ pub fn next_group(
         let a = root[j];
         if s < c {
             let n = rest_length(0, c, s);
-            let b = row_start(a, s, n, d);
-            base[j] = b;
-            first[j] = s;
-            len[j] = n;
+            put(a, base, first, len, j, s, n, d);
             return true;
         }
-        let b = row_start(a, 0, c, d);
-        base[j] = b;
-        first[j] = 0;
-        len[j] = c;
+        put(a, base, first, len, j, 0, c, d);
     }
     false
 }

@@ -88,8 +88,12 @@ split-next k a n f m h l x =
     split : (k a n f m : ℕ) → n ≤ k → 1 < m → Node a n f m → NextOne k a n (f + half m) (m - half m)
     split zero a n f m h l x = let r = node-in x in absurd (omega arith)
     split (suc k) a n f m h l (top p q) = rw (p, q) (next-middle k a n (a + half n) (omega arith) refl)
-    split (suc k) a n f m h l (low o x) = let r = node-in x in next-low k a n (f + half m) (m - half m) o (omega arith) (omega arith) (split k a (half n) f m (omega arith) l x)
-    split (suc k) a n f m h l (high o x) = let r = node-in x in next-high k a n (f + half m) (m - half m) o (omega arith) (split k (a + half n) (n - half n) f m (omega arith) l x)
+    split (suc k) a n f m h l (low o x) =
+        let r = node-in x in
+        next-low k a n (f + half m) (m - half m) o (omega arith) (omega arith) (split k a (half n) f m (omega arith) l x)
+    split (suc k) a n f m h l (high o x) =
+        let r = node-in x in
+        next-high k a n (f + half m) (m - half m) o (omega arith) (split k (a + half n) (n - half n) f m (omega arith) l x)
 
 -- ---- the rest that begins at s, by the side of the middle that s is on
 

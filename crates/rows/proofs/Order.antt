@@ -1,6 +1,6 @@
 -- Where a range of the splitting lies, and its row among the rows. Assumes nothing.
 use mathlib.Core.Path.{_≡_, refl, sym, ap}
-use Prim.Native.Nat.{ℕ, suc, _+_, _-_, _*_, _≤_, _<_}
+use Prim.Native.Nat.{ℕ, suc, _+_, _*_, _≤_, _<_}
 use native.Mathlib.Nat.{mul-le-mul-right, mul-le-mul, suc-mul}
 use native.Mathlib.Omega.{arith}
 use mathlib.Core.Bool.{Bool, true, false}
@@ -24,23 +24,23 @@ node-pos (low h x) l = node-pos x (omega arith)
 node-pos (high h x) l = node-pos x (omega arith)
 
 pub top-one : (n : ℕ) → n ≤ 1 → 0 ≡ topRow n
-top-one n h = sym (ap (λ (b : Bool). pick b (2 * half n - 1) 0) (le-ltb 1 n h))
+top-one n h = sym (ap (λ (b : Bool). pick b (rowsFor (half n)) 0) (le-ltb 1 n h))
 
-pub top-two : (n : ℕ) → 1 < n → 2 * half n - 1 ≡ topRow n
-top-two n h = sym (ap (λ (b : Bool). pick b (2 * half n - 1) 0) (lt-ltb 1 n h))
+pub top-two : (n : ℕ) → 1 < n → rowsFor (half n) ≡ topRow n
+top-two n h = sym (ap (λ (b : Bool). pick b (rowsFor (half n)) 0) (lt-ltb 1 n h))
 
 -- a range's row is one of its rows
 pub top-in : (n : ℕ) → 0 < n → suc (topRow n) ≤ rowsFor n
 top-in n p = go (ltb 1 n) refl
   where
-    go : (v : Bool) → ltb 1 n ≡ v → suc (pick v (2 * half n - 1) 0) ≤ rowsFor n
+    go : (v : Bool) → ltb 1 n ≡ v → suc (pick v (rowsFor (half n)) 0) ≤ rowsFor n
     go true e = omega (arith, ltb-true 1 n e)
     go false e = omega arith
 
 pub top-small : (n : ℕ) → topRow n ≤ 2 * n
 top-small n = go (ltb 1 n) refl
   where
-    go : (v : Bool) → ltb 1 n ≡ v → pick v (2 * half n - 1) 0 ≤ 2 * n
+    go : (v : Bool) → ltb 1 n ≡ v → pick v (rowsFor (half n)) 0 ≤ 2 * n
     go true e = omega (arith, ltb-true 1 n e)
     go false e = omega arith
 

@@ -15,12 +15,12 @@ use Rattle.walk.specs.declared.Walked.{Walked}
 use Rattle.walk.specs.declared.Ending.the-variants.{Meets, Misses, Unfinished}
 use Rattle.rows.specs.Ranges.{Range}
 use Rattle.groups.specs.Groups.{firsts, topGroup, InWalk}
-use Rattle.walk.specs.Steps.{Step, groupOverloads, examine, walkEnd, runBy, runFrom, runRows}
+use Rattle.walk.specs.Steps.{WalkStep, groupOverloads, examine, walkEnd, runBy, runFrom, runRows}
 use Rattle.meaning.specs.Bounds.{mostHigher}
 use Rattle.groups.specs.Lent.{Arrays, arrays, groupIn, largestIndex, Standing, Stands}
 use Rattle.walk.specs.Lent.{Walkable, StepsOver}
 use Rattle.groups.proofs.Pending.{filled-top, walk-length}
-use Rattle.groups.proofs.Stretches.{wider, counts-filled}
+use Rattle.groups.proofs.LaidOut.{wider, counts-filled}
 use Rattle.groups.proofs.Arrays.{holds-firsts, holds-own}
 use Rattle.walk.proofs.Stepping.{examine-walk}
 
@@ -58,7 +58,8 @@ module _ {h d e : ℕ} {root count work : List ℕ} (f : Walkable h d e root cou
   ns = take h count
 
   module _ {b : ℕ} where
-    pub going-top : length work ≤ largestIndex → {a : Arrays} → Stands h d root (arrays nowhere nowhere nowhere) a (topGroup ns) → Going h d e b root count work a 0
+    pub going-top : length work ≤ largestIndex → {a : Arrays} → Stands h d root (arrays nowhere nowhere nowhere) a (topGroup ns)
+        → Going h d e b root count work a 0
     going-top l s =
         record {
           standing = record {
@@ -72,7 +73,7 @@ module _ {h d e : ℕ} {root count work : List ℕ} (f : Walkable h d e root cou
         }
 
     module _ {a : Arrays} {n : ℕ} (g : Going h d e b root count work a n) where
-      abbrev to : Step
+      abbrev to : WalkStep
       to = examine over ns (groupIn h a)
 
       pub going-out : b ≤ n → walkEnd (Unfinished b) [] ≡ runRows work d e (take h root) ns b

@@ -21,7 +21,7 @@ use Rattle.walk.specs.declared.Ending.the-variants.{Meets, Misses, Unfin
 use Rattle.walk.specs.declared.Walked.{Walked}
 use Rattle.rows.specs.Ranges.{Range}
 use Rattle.groups.specs.Groups.{firsts, topGroup, allSingle, firstChild, nextGroup, InWalk}
-use Rattle.walk.specs.Steps.{Step, stepBy, descend, walkEnd, runBy, runFrom}
+use Rattle.walk.specs.Steps.{WalkStep, stepBy, descend, walkEnd, runBy, runFrom}
 use Rattle.walk.specs.Told.{sizes, chosen, AtPaths, Says}
 use Rattle.groups.proofs.Pending.{Filled, filled-top, walk-child, pending, pending-top, pending-child, FirstPending, next-pending}
 use Rattle.walk.proofs.Paths.{groupOf, group-single, group-first-child, group-second-child, group-top, chosen-heads, firsts-at-paths}
@@ -55,7 +55,9 @@ module _ {X : Type 0} (load : X → ℕ → ℕ) (e d : ℕ) (Gs : List (List X)
 
   -- what a step leaves to do
   further : (b n : ℕ) (r : Walked) (o p : Outcome X) → o ≡ p → Gives Gs (suc n + b) p r → Gives Gs (n + suc b) o r
-  further b n r o p q g = let k : suc n + b ≡ n + suc b = omega arith in subst (λ (m : ℕ). Gives Gs m o r) k (subst (λ (z : Outcome X). Gives Gs (suc n + b) z r) (sym q) g)
+  further b n r o p q g =
+      let k : suc n + b ≡ n + suc b = omega arith in
+      subst (λ (m : ℕ). Gives Gs m o r) k (subst (λ (z : Outcome X). Gives Gs (suc n + b) z r) (sym q) g)
 
   children : (xs : List Range) → InWalk ns xs → allSingle xs ≡ false
       → Meant.firstChild (groupOf Gs xs) ∷ Meant.secondChild (groupOf Gs xs) ∷ behind xs ≡ groupOf Gs (firstChild xs) ∷ behind (firstChild xs)
@@ -67,7 +69,7 @@ module _ {X : Type 0} (load : X → ℕ → ℕ) (e d : ℕ) (Gs : List (List X)
   alike zero n xs o = ap (λ (k : ℕ). walkEnd (Unfinished k) []) (sym (add-zero n))
   alike (suc b) n xs o = go (over xs) refl (allSingle xs) refl (nextGroup ns xs) (next-pending ns xs o) (λ ys p. alike b (suc n) ys p)
     where
-      step-by : Step → Walked
+      step-by : WalkStep → Walked
       step-by s = runBy n (λ (ys : List Range). runFrom over ns b (suc n) ys) (s .told) (s .group)
 
       go : (v : Bool) → over xs ≡ v → (s : Bool) → allSingle xs ≡ s → (f : Option (List Range)) → FirstPending ns xs f
@@ -98,9 +100,12 @@ module _ {X : Type 0} (load : X → ℕ → ℕ) (e d : ℕ) (Gs : List (List X)
   run-says b p r s = go (ltb b (count load e d Gs)) refl
     where
       gives : (o : Outcome X) → run load e d b (Gs ∷ []) 0 ≡ o → Gives Gs b o r
-      gives o q = subst (λ (z : Walked). Gives Gs b o z) (sym s) (subst (λ (z : Outcome X). Gives Gs b z (runFrom over ns b 0 (topGroup ns))) q (whole b p))
+      gives o q =
+          subst (λ (z : Walked). Gives Gs b o z) (sym s)
+          (subst (λ (z : Outcome X). Gives Gs b z (runFrom over ns b 0 (topGroup ns))) q (whole b p))
 
-      finished : count load e d Gs ≤ b → (w : Option (List X)) → witness load e d Gs ≡ w → Gives Gs b (ended (count load e d Gs) w) r → Says load e d b Gs (r .ending) (r .places)
+      finished : count load e d Gs ≤ b → (w : Option (List X)) → witness load e d Gs ≡ w
+          → Gives Gs b (ended (count load e d Gs) w) r → Says load e d b Gs (r .ending) (r .places)
       finished l none q g = subst (λ (z : Walked). Says load e d b Gs (z .ending) (z .places)) (sym g) (l, refl, q)
       finished l (some w) q (ps, g, c, a) =
           rw (ap (λ (z : Walked). z .ending) g) (l, refl, q ∙ ap some c, a)

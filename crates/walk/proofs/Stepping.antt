@@ -36,7 +36,8 @@ examine-walk over ns xs o = go (over xs) (allSingle xs) (nextGroup ns xs) (next-
 
 -- a move as a step: told what it means where there is no group to go to
 module _ {h d : ℕ} {root : List ℕ} {a b : Arrays} {xs : List Range} where
-  moved-step : (told : Examined) {r v : Bool} → r ≡ v → (to : Option (List Range)) → Moved to xs h d root a r b → Stepped (stepBy told xs to) h d root a (pick v Next told) b
+  moved-step : (told : Examined) {r v : Bool} → r ≡ v → (to : Option (List Range)) → Moved to xs h d root a r b
+      → Stepped (stepBy told xs to) h d root a (pick v Next told) b
   moved-step told q none m = record { says = ap (λ (z : Bool). pick z Next told) (sym q ∙ m .says); stands = m .stands }
   moved-step told q (some ys) m = record { says = ap (λ (z : Bool). pick z Next told) (sym q ∙ m .says); stands = m .stands }
 

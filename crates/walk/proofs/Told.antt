@@ -12,7 +12,7 @@ use Rattle.meaning.specs.Bounds.{mostHigher}
 use Rattle.walk.specs.Lent.{Walkable}
 use Rattle.walk.specs.Told.{sizes, chosen, RowsHold, Says}
 use Rattle.groups.proofs.Pending.{filled-top}
-use Rattle.groups.proofs.Stretches.{counts-filled}
+use Rattle.groups.proofs.LaidOut.{counts-filled}
 use Rattle.walk.proofs.Running.{run-places}
 use Rattle.walk.proofs.Paths.{overloads-are}
 use Rattle.walk.proofs.Same.{run-says}
@@ -21,7 +21,8 @@ use Rattle.walk.proofs.Same.{run-says}
 
 module _ {X : Type 0} (load : X → ℕ → ℕ) (Gs : List (List X)) where
   -- C and the witness, or unfinished exactly if the budget b is below C
-  pub walk-says : {h d e : ℕ} {root count work : List ℕ} → Walkable h d e root count work → length Gs ≡ h → take h count ≡ sizes Gs → RowsHold load d work root Gs
+  pub walk-says : {h d e : ℕ} {root count work : List ℕ} → Walkable h d e root count work → length Gs ≡ h → take h count ≡ sizes Gs
+      → RowsHold load d work root Gs
       → (b : ℕ) {r : Walked} → r ≡ runRows work d e (take h root) (take h count) b → Says load e d b Gs (r .ending) (r .places)
   walk-says {d = d} {e} {root} {work = work} w many are rows b {r} q =
       let a = w .stretches .few in
@@ -30,7 +31,8 @@ module _ {X : Type 0} (load : X → ℕ → ℕ) (Gs : List (List X)) where
       (rw are at (counts-filled (w .stretches))) r (q ∙ ap₂ (λ (k : ℕ) (ns : List ℕ). runRows work d e (take k root) ns b) (sym many) are)
 
 -- a place for each higher task there can be
-pub places-whole : {h d e : ℕ} {root count work : List ℕ} → Walkable h d e root count work → (b : ℕ) {r : Walked} → r ≡ runRows work d e (take h root) (take h count) b → length (r .places) ≡ mostHigher
+pub places-whole : {h d e : ℕ} {root count work : List ℕ} → Walkable h d e root count work → (b : ℕ) {r : Walked}
+    → r ≡ runRows work d e (take h root) (take h count) b → length (r .places) ≡ mostHigher
 places-whole {h} {d} {e} {root} {count} {work} w b q =
     let a = w .stretches .few in
     let c = w .stretches .countLength in

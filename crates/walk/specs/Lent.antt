@@ -5,21 +5,21 @@ use mathlib.Core.List.{List}
 use lib.ListN.{length, take, getD}
 use Rattle.rows.specs.Order.{Node}
 use Rattle.rows.specs.Ranges.{range, rowStart}
-use Rattle.groups.specs.Lent.{Arrays, groupIn, Stretches, Stands}
+use Rattle.groups.specs.Lent.{Arrays, groupIn, LaidOut, Stands}
 use Rattle.overload.specs.Rows.{light}
 use Rattle.walk.specs.declared.Examined.{Examined}
-use Rattle.walk.specs.Steps.{Step, examine, groupOverloads}
+use Rattle.walk.specs.Steps.{WalkStep, examine, groupOverloads}
 
 -- the stretches lie in the work area, and the cells of each row are light and never fall from one tick to the next
 pub record Walkable (h d e : ℕ) (root count work : List ℕ) : Type 0 where
-  pub stretches : Stretches (length work) h d root count
+  pub stretches : LaidOut (length work) h d root count
   pub own : e ≤ light
   pub cells : (j : ℕ) → j < h → (f m : ℕ) → Node 0 (getD count j 0) f m → (t : ℕ) → t < d → getD work (rowStart d (getD root j 0) (range f m) + t) 0 ≤ light
   pub rise : (j : ℕ) → j < h → (f m : ℕ) → Node 0 (getD count j 0) f m → (t : ℕ) → suc t < d
       → getD work (rowStart d (getD root j 0) (range f m) + t) 0 ≤ getD work (rowStart d (getD root j 0) (range f m) + suc t) 0
 
 -- the step that is said, and the arrays hold its group
-pub record Stepped (to : Step) (h d : ℕ) (root : List ℕ) (a : Arrays) (told : Examined) (b : Arrays) : Type 0 where
+pub record Stepped (to : WalkStep) (h d : ℕ) (root : List ℕ) (a : Arrays) (told : Examined) (b : Arrays) : Type 0 where
   pub says : told ≡ to .told
   pub stands : Stands h d root a b (to .group)
 

@@ -17,28 +17,28 @@ use Rattle.groups.specs.Groups.{firsts, rowStarts, topGroup, childGroup, nextGr
 use Rattle.overload.specs.Rows.{rowsOverload}
 
 -- what examining a group says, and the group that the walk then stands at
-pub record Step : Type 0 where
+pub record WalkStep : Type 0 where
   pub told : Examined
   pub group : List Range
 
-abbrev pub stepTo : Examined → List Range → Step
+abbrev pub stepTo : Examined → List Range → WalkStep
 stepTo told xs = record { told = told; group = xs }
 
 -- the group that is there to go to is next; where there is none, it is told what that means, and the walk stands at xs
-abbrev pub stepBy : Examined → List Range → Option (List Range) → Step
+abbrev pub stepBy : Examined → List Range → Option (List Range) → WalkStep
 stepBy told xs none = stepTo told xs
 stepBy told xs (some ys) = stepTo Next ys
 
 -- an overloading group of single paths is the witness, any other has its first child examined next
-abbrev pub descend : List Range → Step
+abbrev pub descend : List Range → WalkStep
 descend xs = stepBy Witness xs (childGroup xs)
 
 -- behind the last group all are whole
-abbrev pub onward : List ℕ → List Range → Step
+abbrev pub onward : List ℕ → List Range → WalkStep
 onward ns xs = stepBy Last (topGroup ns) (nextGroup ns xs)
 
 -- a group that doesn't overload has nothing below it examined
-abbrev pub examine : (List Range → Bool) → List ℕ → List Range → Step
+abbrev pub examine : (List Range → Bool) → List ℕ → List Range → WalkStep
 examine overloads ns xs = pick (overloads xs) (descend xs) (onward ns xs)
 
 -- a walk's end, with the places of the witness's paths if there is one

@@ -1,6 +1,6 @@
 use native.Mathlib.Omega.{arith}
 use Rattle.groups.specs.Lent.{arrays}
-use Rattle.groups.proofs.NextGroup.{Back, back-start, back-from, back-end, back-asks, back-asks-whole, back-found, back-more, back-none}
+use Rattle.groups.proofs.NextGroup.{Back, back-start, back-end, back-asks, back-asks-whole, back-found, back-more, back-none}
 use Rattle.groups.proofs.next_group.Statement.{statement}
 use Rattle.groups.proofs.next_group.Tie as tie
 
@@ -32,7 +32,7 @@ add-s : tie.Need-add-s Inv-loop μ-loop
 add-s c =
     let l = c .before .before .before in
     let w = l .before .pre in
-    omega (arith, back-end w (back-from w (omega arith) (l .loop .inv)))
+    omega (arith, back-end w (omega arith) (l .loop .inv))
 
 mul-c : tie.Need-mul-c Inv-loop μ-loop
 mul-c c = omega arith
@@ -51,75 +51,43 @@ rest-length-requires c κs =
     let t = c .if1 .taken in
     let l = c .before .before .before .before .before .before in
     let w = l .before .pre in
-    omega (arith, back-end w (back-from w (omega arith) (l .loop .inv)))
+    omega (arith, back-end w (omega arith) (l .loop .inv))
 
-row-start-requires : tie.Need-row-start-requires Inv-loop μ-loop
-row-start-requires c κs =
-    let l = c .before .before .before .before .before .before .before in
+put-requires : tie.Need-put-requires Inv-loop μ-loop
+put-requires c κs =
+    let rest = c .before .before .before in
+    let l = rest .before .before .before .before .before .before .before in
     let w = l .before .pre in
-    back-asks w (back-from w (omega arith) (l .loop .inv)) (c .before .if1 .taken) (c .rest-length .result) (c .rest-length .ensures)
-
-mul-base : tie.Need-mul-base Inv-loop μ-loop
-mul-base c = omega arith
-
-element-write-base : tie.Need-element-write-base Inv-loop μ-loop
-element-write-base c = omega arith
-
-mul-first : tie.Need-mul-first Inv-loop μ-loop
-mul-first c = omega arith
-
-element-write-first : tie.Need-element-write-first Inv-loop μ-loop
-element-write-first c = omega arith
-
-mul-len : tie.Need-mul-len Inv-loop μ-loop
-mul-len c = omega arith
-
-element-write-len : tie.Need-element-write-len Inv-loop μ-loop
-element-write-len c = omega arith
+    back-asks w (omega arith) (l .loop .inv) (rest .before .if1 .taken) (rest .rest-length .result) (rest .rest-length .ensures)
 
 returns : tie.Need-returns Inv-loop μ-loop
 returns c =
-    let r = c .before .rest-length in
-    let l = c .before .before .before .before .before .before .before .before in
+    let rest = c .before .before .before .before in
+    let l = rest .before .before .before .before .before .before .before in
     let w = l .before .pre in
-    back-found w (back-from w (omega arith) (l .loop .inv)) (r .result) (c .row-start .result) (c .before .before .if1 .taken) (r .ensures)
-    (c .row-start .ensures)
+    back-found w (omega arith) (l .loop .inv) (rest .rest-length .result) (rest .before .if1 .taken) (rest .rest-length .ensures)
+    (c .put .ensures)
 
-row-start-requires-2 : tie.Need-row-start-requires-2 Inv-loop μ-loop
-row-start-requires-2 c κs =
-    let l = c .before .before .before .before .before .before in
+put-requires-2 : tie.Need-put-requires-2 Inv-loop μ-loop
+put-requires-2 c κs =
+    let l = c .before .before .before .before .before .before .before .before .before in
     let w = l .before .pre in
-    back-asks-whole w (back-from w (omega arith) (l .loop .inv))
-
-mul-base-2 : tie.Need-mul-base-2 Inv-loop μ-loop
-mul-base-2 c = omega arith
-
-element-write-base-2 : tie.Need-element-write-base-2 Inv-loop μ-loop
-element-write-base-2 c = omega arith
-
-mul-first-2 : tie.Need-mul-first-2 Inv-loop μ-loop
-mul-first-2 c = omega arith
-
-element-write-first-2 : tie.Need-element-write-first-2 Inv-loop μ-loop
-element-write-first-2 c = omega arith
-
-mul-len-2 : tie.Need-mul-len-2 Inv-loop μ-loop
-mul-len-2 c = omega arith
-
-element-write-len-2 : tie.Need-element-write-len-2 Inv-loop μ-loop
-element-write-len-2 c = omega arith
+    back-asks-whole w {b = arrays (l .loop .base) (l .loop .first) (l .loop .len)} (omega arith) (l .loop .inv)
 
 loop-less : tie.Need-loop-less Inv-loop μ-loop
 loop-less c = omega arith
 
 loop-again : tie.Need-loop-again Inv-loop μ-loop
 loop-again c =
-    let l = c .before .before .before .before .before .before .before in
+    let test = c .before .before .before .before in
+    let l = test .before .before .before .before .before .before in
     let w = l .before .pre in
-    back-more w (back-from w (omega arith) (l .loop .inv)) (c .row-start2 .result) (c .before .if1 .left) (c .row-start2 .ensures)
+    back-more w (omega arith) (l .loop .inv) (test .if1 .left) (c .put2 .ensures)
 
 returns-2 : tie.Need-returns-2 Inv-loop μ-loop
-returns-2 c = let l = c .before in let w = l .before .pre in back-none w (omega arith) (l .loop .inv)
+returns-2 c =
+    let l = c .before in
+    back-none (l .before .pre) (omega arith) (l .loop .inv)
 
 pub next-group-spec : {M : Type 1} → statement M
 next-group-spec =
@@ -139,21 +107,9 @@ next-group-spec =
     mul-a
     element-copy-out-a
     rest-length-requires
-    row-start-requires
-    mul-base
-    element-write-base
-    mul-first
-    element-write-first
-    mul-len
-    element-write-len
+    put-requires
     returns
-    row-start-requires-2
-    mul-base-2
-    element-write-base-2
-    mul-first-2
-    element-write-first-2
-    mul-len-2
-    element-write-len-2
+    put-requires-2
     loop-less
     loop-again
     returns-2)

@@ -20,16 +20,32 @@ element-copy-out-i : tie.Need-element-copy-out-i Inv-loop μ-loop
 element-copy-out-i c = omega arith
 
 add-i : tie.Need-add-i Inv-loop μ-loop
-add-i c = let l = c .before .before in let s = l .before in let i = s .pre .1 .within (l .loop .j) (omega arith) in omega arith
+add-i c =
+    let l = c .before .before in
+    let s = l .before in
+    let i = s .pre .1 .within (l .loop .j) (omega arith) in
+    omega arith
 
 mul-sum : tie.Need-mul-sum Inv-loop μ-loop
-mul-sum c = let l = c .before .before in let s = l .before in let i = s .pre .1 .within (l .loop .j) (omega arith) in omega arith
+mul-sum c =
+    let l = c .before .before in
+    let s = l .before in
+    let i = s .pre .1 .within (l .loop .j) (omega arith) in
+    omega arith
 
 shared-slice-read-sum : tie.Need-shared-slice-read-sum Inv-loop μ-loop
-shared-slice-read-sum c = let l = c .before .before .before in let s = l .before in let i = s .pre .1 .within (l .loop .j) (omega arith) in omega arith
+shared-slice-read-sum c =
+    let l = c .before .before .before in
+    let s = l .before in
+    let i = s .pre .1 .within (l .loop .j) (omega arith) in
+    omega arith
 
 add-sum : tie.Need-add-sum Inv-loop μ-loop
-add-sum c = let l = c .before .before .before in let s = l .before in let w = s .pre .1 .cells (l .loop .j) (omega arith) (s .args .t) (s .pre .0) in omega arith
+add-sum c =
+    let l = c .before .before .before in
+    let s = l .before in
+    let w = s .pre .1 .cells (l .loop .j) (omega arith) (s .args .t) (s .pre .0) in
+    omega arith
 
 add-j : tie.Need-add-j Inv-loop μ-loop
 add-j c = omega arith
@@ -38,7 +54,11 @@ loop-less : tie.Need-loop-less Inv-loop μ-loop
 loop-less c = omega arith
 
 loop-again : tie.Need-loop-again Inv-loop μ-loop
-loop-again c = let l = c .before .before .before in let s = l .before in (omega arith, summed-more (l .loop .inv .1) (omega arith) (s .pre .1 .cells (l .loop .j) (omega arith) (s .args .t) (s .pre .0)))
+loop-again c =
+    let l = c .before .before .before in
+    let s = l .before in
+    let w = s .pre .1 .cells (l .loop .j) (omega arith) (s .args .t) (s .pre .0) in
+    (omega arith, summed-more (l .loop .inv .1) (omega arith) w)
 
 returns : tie.Need-returns Inv-loop μ-loop
 returns c = let l = c .before in (summed-all (l .loop .inv .1) (l .before .args .h) (omega arith), omega arith)

@@ -34,7 +34,10 @@ rest-length-sub-result : (t : ℕ) → rest-length-lts.Need-sub-result (claims t
 rest-length-sub-result t c = let k = c .before .half .ensures in omega arith
 
 rest-length-returns : (t : ℕ) → rest-length-lts.Need-returns (claims t) (at t) rest-length.Post
-rest-length-returns t c = let a = c .before .before .args in let h = c .before .half in rest-middle (a .first) (a .n) (a .s) (h .result) (omega arith) (omega arith) (h .ensures) (c .if1 .taken)
+rest-length-returns t c =
+    let h = c .before .half in
+    let a = c .before .before .args in
+    rest-middle (a .first) (a .n) (a .s) (h .result) (omega arith) (omega arith) (h .ensures) (c .if1 .taken)
 
 rest-length-rest-length-requires : (t : ℕ) → rest-length-lts.Need-rest-length-requires (claims t) (at t) rest-length.Post
 rest-length-rest-length-requires t c κs = let k = c .before .before .half .ensures in omega arith
@@ -46,10 +49,16 @@ rest-length-rest-length-requires-2 : (t : ℕ) → rest-length-lts.Need-rest-len
 rest-length-rest-length-requires-2 t c κs = let k = c .before .before .half .ensures in omega arith
 
 rest-length-returns-2 : (t : ℕ) → rest-length-lts.Need-returns-2 (claims t) (at t) rest-length.Post
-rest-length-returns-2 t c = let h = c .before .before .before .half in let a = c .before .before .before .before .args in c .rest-length .ensures ∙ rest-low (a .first) (a .n) (a .s) (h .result) (omega arith) (omega arith) (h .ensures) (omega arith)
+rest-length-returns-2 t c =
+    let h = c .before .before .before .half in
+    let a = c .before .before .before .before .args in
+    c .rest-length .ensures ∙ rest-low (a .first) (a .n) (a .s) (h .result) (omega arith) (omega arith) (h .ensures) (omega arith)
 
 rest-length-returns-3 : (t : ℕ) → rest-length-lts.Need-returns-3 (claims t) (at t) rest-length.Post
-rest-length-returns-3 t c = let h = c .before .before .before .half in let a = c .before .before .before .before .args in c .rest-length2 .ensures ∙ rest-high (a .first) (a .n) (a .s) (h .result) (omega arith) (omega arith) (h .ensures) (omega arith)
+rest-length-returns-3 t c =
+    let h = c .before .before .before .half in
+    let a = c .before .before .before .before .args in
+    c .rest-length2 .ensures ∙ rest-high (a .first) (a .n) (a .s) (h .result) (omega arith) (omega arith) (h .ensures) (omega arith)
 
 pub +rest-length-spec : {M : Type 1} → statement M
 +rest-length-spec =

@@ -3,7 +3,7 @@ use borrow.Author.Needs.{needs}
 use mathlib.Core.Path.{refl}
 use Prim.Native.Nat.{_-_}
 use Rattle.groups.specs.Lent.{arrays}
-use Rattle.groups.proofs.Stretches.{wider}
+use Rattle.groups.proofs.LaidOut.{wider}
 use Rattle.walk.proofs.Running.{Going, going-top, going-out, going-next, going-last, going-witness}
 use Rattle.walk.proofs.run.Statement.{statement}
 use Rattle.walk.proofs.run.Tie as tie

@@ -8,18 +8,18 @@ use Rattle.meaning.specs.Bounds.{largestD, mostPaths}
 use Rattle.rows.specs.Order.{Node}
 use Rattle.rows.specs.Ranges.{range, rowStart}
 use Rattle.rows.proofs.Order.{node-in, row-end}
-use Rattle.groups.specs.Lent.{largestIndex, Stretches}
+use Rattle.groups.specs.Lent.{largestIndex, LaidOut}
 use Rattle.groups.proofs.Pending.{Filled}
 
 -- what is asked where a row's start is summed
-pub row-asked : {h d : ℕ} {root count : List ℕ} → Stretches largestIndex h d root count → (j : ℕ) → j < h → {f m : ℕ} → Node 0 (getD count j 0) f m
+pub row-asked : {h d : ℕ} {root count : List ℕ} → LaidOut largestIndex h d root count → (j : ℕ) → j < h → {f m : ℕ} → Node 0 (getD count j 0) f m
     → (f + m ≤ mostPaths) × (d ≤ largestD) × (rowStart d (getD root j 0) (range f m) ≤ largestIndex)
 row-asked {h} {d} {root} s j l x =
     let p = s .paths j l in
     (omega (arith, node-in x), s .short, omega (arith, row-end d (getD root j 0) x (p .0), s .within j l))
 
-module _ {room h d : ℕ} {root count : List ℕ} (s : Stretches room h d root count) where
-  pub wider : room ≤ largestIndex → Stretches largestIndex h d root count
+module _ {room h d : ℕ} {root count : List ℕ} (s : LaidOut room h d root count) where
+  pub wider : room ≤ largestIndex → LaidOut largestIndex h d root count
   wider l =
       record {
         few = s .few;
