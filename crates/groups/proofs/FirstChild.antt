@@ -1,17 +1,16 @@
 -- The first range longer than one is found and cut to its first half. Assumes nothing.
 use mathlib.Core.Path.{_≡_, refl, sym, ap, subst, _∙_}
-use Prim.Native.Nat.{ℕ, zero, suc, _+_, _≤_, _<_}
+use Prim.Native.Nat.{ℕ, zero, suc, _≤_, _<_}
 use native.Mathlib.Omega.{arith}
 use mathlib.Core.Bool.{Bool, true, false, not, _&&_}
 use mathlib.Core.List.{List, [], _∷_}
 use lib.ListN.{length, getD, set}
 use borrow.Author.Tests.{lt-ltb, le-ltb}
-use Rattle.meaning.specs.Bounds.{largestD, mostPaths}
 use Rattle.meaning.specs.Lists.{pick}
 use Rattle.meaning.specs.Groups.{half}
 use Rattle.rows.specs.Ranges.{Range, range, firstHalf, rowStart}
 use Rattle.groups.specs.Groups.{allSingle, firstChild}
-use Rattle.groups.specs.Lent.{Arrays, arrays, groupIn, largestIndex, Standing, Stands, ToChild}
+use Rattle.groups.specs.Lent.{Startable, Arrays, arrays, groupIn, Standing, Stands, ToChild}
 use Rattle.rows.proofs.Halving.{node-first-half}
 use Rattle.groups.proofs.LaidOut.{row-asked}
 use Rattle.groups.proofs.Arrays.{noRange, stands-start, stands-cut, own-length, own-get, standing-at}
@@ -41,7 +40,7 @@ module _ {h d : ℕ} {root count : List ℕ} {a : Arrays} (w : Standing h d root
     abbrev cut : Range
     cut = range (getD (a .first) j 0) c
 
-    pub child-asks : (getD (a .first) j 0 + c ≤ mostPaths) × (d ≤ largestD) × (rowStart d (getD root j 0) cut ≤ largestIndex)
+    pub child-asks : Startable d (getD root j 0) cut
     child-asks = row-asked (w .stretches) j l (rw is (node-first-half (standing-at w j l .node) m))
 
     pub child-found : (v : ℕ) → ((k : ℕ) → k < j → getD (a .len) k 0 ≤ 1) → v ≡ rowStart d (getD root j 0) cut

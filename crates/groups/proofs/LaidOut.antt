@@ -1,19 +1,18 @@
 -- What the stretches give: rows whose starts can be summed, and paths of every task. Assumes nothing.
-use Prim.Native.Nat.{ℕ, zero, suc, _+_, _≤_, _<_}
+use Prim.Native.Nat.{ℕ, zero, suc, _≤_, _<_}
 use native.Mathlib.Nat.{le-trans}
 use native.Mathlib.Omega.{arith}
 use mathlib.Core.List.{List, [], _∷_}
 use lib.ListN.{length, take, getD}
-use Rattle.meaning.specs.Bounds.{largestD, mostPaths}
 use Rattle.rows.specs.Order.{Node}
-use Rattle.rows.specs.Ranges.{range, rowStart}
+use Rattle.rows.specs.Ranges.{range}
 use Rattle.rows.proofs.Order.{node-in, row-end}
-use Rattle.groups.specs.Lent.{largestIndex, LaidOut}
+use Rattle.groups.specs.Lent.{largestIndex, Startable, LaidOut}
 use Rattle.groups.proofs.Pending.{Filled}
 
 -- what is asked where a row's start is summed
 pub row-asked : {h d : ℕ} {root count : List ℕ} → LaidOut largestIndex h d root count → (j : ℕ) → j < h → {f m : ℕ} → Node 0 (getD count j 0) f m
-    → (f + m ≤ mostPaths) × (d ≤ largestD) × (rowStart d (getD root j 0) (range f m) ≤ largestIndex)
+    → Startable d (getD root j 0) (range f m)
 row-asked {h} {d} {root} s j l x =
     let p = s .paths j l in
     (omega (arith, node-in x), s .short, omega (arith, row-end d (getD root j 0) x (p .0), s .within j l))

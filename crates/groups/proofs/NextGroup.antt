@@ -9,12 +9,12 @@ use mathlib.Core.List.{List, [], _∷_, _++_, append-nil, append-assoc}
 use lib.ListN.{length, take, drop, getD, set, drop-of-length-le, List·getD-append}
 use lib.Seq.{getD-take, length-take-le, take-suc, set-at, take-all, drop-cons}
 use borrow.Author.Tests.{lt-ltb, le-ltb}
-use Rattle.meaning.specs.Bounds.{largestD, mostHigher, mostPaths}
+use Rattle.meaning.specs.Bounds.{mostHigher, mostPaths}
 use mathlib.Core.Bool.{true, false}
-use Rattle.rows.specs.Ranges.{Range, range, endOf, restLength, rowStart}
+use Rattle.rows.specs.Ranges.{Range, range, endOf, restLength}
 use Rattle.groups.specs.Groups.{topGroup, nextGroup}
 use Rattle.rows.specs.Order.{Node, top}
-use Rattle.groups.specs.Lent.{Arrays, Sized, putRange, groupIn, largestIndex, Standing, Stands, ToNext}
+use Rattle.groups.specs.Lent.{Startable, Arrays, Sized, putRange, groupIn, Standing, Stands, ToNext}
 use Rattle.rows.proofs.Halving.{rest-next}
 use Rattle.groups.proofs.LaidOut.{row-asked}
 use Rattle.groups.proofs.Arrays.{noRange, group-get, stands-start, stands-put, own-length, own-get, standing-at}
@@ -126,10 +126,10 @@ module _ {h d : ℕ} {root count : List ℕ} {a : Arrays} (w : Standing h d root
 
       -- what is asked where a range is written
       abbrev Asks : Range → Type 0
-      Asks x = (x .first + x .len ≤ mostPaths) × (d ≤ largestD) × (rowStart d (getD root i 0) x ≤ largestIndex) × (i < mostHigher) × Sized b
+      Asks x = Startable d (getD root i 0) x × (i < mostHigher) × Sized b
 
       asks : {f m : ℕ} → Node 0 n f m → Asks (range f m)
-      asks x = let r = row-asked (w .stretches) i in-h x in (r .0, r .1, r .2, omega (arith, in-h, w .stretches .few), k .stands .holds .sized)
+      asks x = (row-asked (w .stretches) i in-h x, omega (arith, in-h, w .stretches .few), k .stands .holds .sized)
 
       pub back-asks : s < n → (m : ℕ) → m ≡ restLength 0 n s → Asks (range s m)
       back-asks l m e = asks (rw e (rest-next n s (back-end .1) l .node))

@@ -1,6 +1,6 @@
 -- The top group is written range by range. Assumes nothing.
 use mathlib.Core.Path.{_≡_, refl, sym, ap, ap₂, subst, _∙_}
-use Prim.Native.Nat.{ℕ, suc, _+_, _≤_, _<_}
+use Prim.Native.Nat.{ℕ, suc, _+_, _<_}
 use native.Mathlib.Omega.{arith}
 use native.Mathlib.Numerals.{add-one}
 use mathlib.Core.List.{List, [], _∷_, _++_}
@@ -8,10 +8,10 @@ use lib.ListN.{length, take, drop, getD}
 use lib.Seq.{take-suc, take-suc-set, drop-set-lt, length-take-le}
 use Rattle.rows.specs.Ranges.{Range, range, rowStart}
 use Rattle.groups.specs.Groups.{topGroup, rowStarts}
-use Rattle.meaning.specs.Bounds.{largestD, mostHigher, mostPaths}
+use Rattle.meaning.specs.Bounds.{mostHigher}
 use Rattle.rows.specs.Order.{top}
 use Rattle.groups.proofs.LaidOut.{row-asked}
-use Rattle.groups.specs.Lent.{Arrays, Sized, putRange, largestIndex, paired, Holds, LaidOut, Stands}
+use Rattle.groups.specs.Lent.{Startable, Arrays, Sized, putRange, largestIndex, paired, Holds, LaidOut, Stands}
 use Rattle.groups.proofs.Arrays.{paired-length, paired-set, even, put-sized}
 
 top-append : (ns ms : List ℕ) → topGroup (ns ++ ms) ≡ topGroup ns ++ topGroup ms
@@ -58,8 +58,8 @@ module _ {h d : ℕ} {root count : List ℕ} {a : Arrays} where
         length-take-le j root (omega (arith, in-all, s .rootLength))
         ∙ sym (top-length (take j count) ∙ length-take-le j count (omega (arith, in-all, s .countLength)))
 
-    pub top-asks : (0 + n ≤ mostPaths) × (d ≤ largestD) × (rowStart d (getD root j 0) (range 0 n) ≤ largestIndex) × (j < mostHigher) × Sized b
-    top-asks = let r = row-asked s j l (top refl refl) in (r .0, r .1, r .2, in-all, w .holds .sized)
+    pub top-asks : Startable d (getD root j 0) (range 0 n) × (j < mostHigher) × Sized b
+    top-asks = (row-asked s j l (top refl refl), in-all, w .holds .sized)
 
     top-put : TopSoFar h d root count a (putRange d (getD root j 0) b j (range 0 n)) (suc j)
     top-put =

@@ -21,11 +21,13 @@ pub record Arrays : Type 0 where
 abbrev pub arrays : List ℕ → List ℕ → List ℕ → Arrays
 arrays base first len = record { base = base; first = first; len = len }
 
+-- each has a cell for every higher task that there can be
 pub record Sized (a : Arrays) : Type 0 where
   pub baseLength : length (a .base) ≡ mostHigher
   pub firstLength : length (a .first) ≡ mostHigher
   pub lenLength : length (a .len) ≡ mostHigher
 
+-- two arrays of numbers as one list of ranges
 abbrev pub paired : List ℕ → List ℕ → List Range
 paired [] ls = []
 paired (f ∷ fs) [] = []
@@ -51,6 +53,10 @@ putRange d root a j x = arrays (set (a .base) j (rowStart d root x)) (set (a .fi
 abbrev pub largestIndex : ℕ
 largestIndex = 18446744073709551615
 
+-- the start of the range's row can be summed
+abbrev pub Startable : ℕ → ℕ → Range → Type 0
+Startable d root x = (x .first + x .len ≤ mostPaths) × (d ≤ largestD) × (rowStart d root x ≤ largestIndex)
+
 -- where each task's stretch begins and how many paths the task has; the stretches end within so many cells
 pub record LaidOut (room h d : ℕ) (root count : List ℕ) : Type 0 where
   pub few : h ≤ mostHigher
@@ -75,15 +81,17 @@ pub record Stands (h d : ℕ) (root : List ℕ) (a b : Arrays) (xs : List Range)
   pub firsts : drop h (b .first) ≡ drop h (a .first)
   pub lens : drop h (b .len) ≡ drop h (a .len)
 
+-- whether there is a group to go to
 abbrev pub isThere : Option (List Range) → Bool
 isThere none = false
 isThere (some ys) = true
 
+-- it, or else the group xs
 abbrev pub orStay : Option (List Range) → List Range → List Range
 orStay none xs = xs
 orStay (some ys) xs = ys
 
--- told whether there is a group to go to, and the arrays hold it; where there is none, they hold the group xs
+-- told whether there is one, and the arrays hold it; where there is none, they hold the group xs
 pub record Moved (to : Option (List Range)) (xs : List Range) (h d : ℕ) (root : List ℕ) (a : Arrays) (told : Bool) (b : Arrays) : Type 0 where
   pub says : told ≡ isThere to
   pub stands : Stands h d root a b (orStay to xs)

@@ -8,16 +8,16 @@ use rows::half;
 use rows::rest_length;
 use rows::top_row;
 ghost use mathlib.Core.Path.{_≡_};
-ghost use Prim.Native.Nat.{_+_, _≤_, _<_};
+ghost use Prim.Native.Nat.{_+_, _<_};
 ghost use lib.ListN.{take};
-ghost use Rattle.meaning.specs.Bounds.{largestD, mostHigher, mostPaths};
+ghost use Rattle.meaning.specs.Bounds.{mostHigher};
 ghost use Rattle.rows.specs.Ranges.{range, rowStart};
 ghost use Rattle.groups.specs.Groups.{topGroup};
-ghost use Rattle.groups.specs.Lent.{arrays, Sized, putRange, largestIndex, LaidOut, Standing, Stands, ToChild, ToNext};
+ghost use Rattle.groups.specs.Lent.{arrays, Sized, putRange, largestIndex, Startable, LaidOut, Standing, Stands, ToChild, ToNext};
 
 // Where the row of the n paths from place first on begins.
 fn row_start(root: usize, first: usize, n: usize, d: usize) -> usize
-    requires { ⌜ (first + n ≤ mostPaths) × (d ≤ largestD) × (rowStart d root (range first n) ≤ largestIndex) ⌝ }
+    requires { ⌜ Startable d root (range first n) ⌝ }
     ensures { λ r. ⌜ r ≡ rowStart d root (range first n) ⌝ }
 {
     let row = 2 * first + top_row(n);
@@ -35,7 +35,7 @@ fn put(
     n: usize,
     d: usize,
 )
-    requires { ⌜ (f + n ≤ mostPaths) × (d ≤ largestD) × (rowStart d root (range f n) ≤ largestIndex) × (j < mostHigher) × Sized (arrays (now base) (now first) (now len)) ⌝ }
+    requires { ⌜ Startable d root (range f n) × (j < mostHigher) × Sized (arrays (now base) (now first) (now len)) ⌝ }
     ensures { λ _. ⌜ arrays (now (base .exit)) (now (first .exit)) (now (len .exit)) ≡ putRange d root (arrays (now (base .entry)) (now (first .entry)) (now (len .entry))) j (range f n) ⌝ }
 {
     let b = row_start(root, f, n, d);

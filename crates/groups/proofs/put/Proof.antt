@@ -6,7 +6,7 @@ use Rattle.groups.proofs.put.Statement.{statement}
 use Rattle.groups.proofs.put.Tie as tie
 
 row-start-requires : tie.Need-row-start-requires
-row-start-requires c κs = let p = c .pre in (p .0, p .1, p .2)
+row-start-requires c κs = c .pre .0
 
 mul-base : tie.Need-mul-base
 mul-base c = omega arith
