@@ -1,8 +1,8 @@
 // The desk program's verdicts, in words for people: a line for each vertex, after a miss the releases that show it, then the counts and whether the
 // table may go out. "It reads standard input into 8,192 bytes, lends 8,192 work cells and 1,407 witness cells, and uses budget 100,000."
 //
-// With the argument `many`, standard input is a sequence of texts, each preceded by its length in 4 bytes, high byte first; the words of each text are
-// followed by an empty line.
+// With the argument `many`, standard input is a sequence of cases, as the crate `sequences` has it, whose mode is `w`; the words of each text are followed by
+// an empty line.
 mod bounds;
 mod counts;
 mod line;
@@ -14,12 +14,14 @@ mod tables;
 mod verdicts;
 
 use crate::print::end_line;
+use crate::print::say;
 use crate::refusals::say_refused;
 use crate::refusals::say_too_long;
 use crate::tables::say_table;
 use reader::Status;
 use reader::read;
-use sequences::text_end;
+use sequences::HEADER_BYTES;
+use sequences::case_end;
 
 // A text of more bytes fills the input's 8,192, and more may follow.
 const MOST_BYTES: usize = 8191;
@@ -40,13 +42,24 @@ fn say_text(text: &[u8], work: &mut [u32], witness: &mut [u16]) {
     say_refused(text, at);
 }
 
-fn say_texts(bytes: &[u8], work: &mut [u32], witness: &mut [u16]) {
-    let mut at = 0;
-    while 4 <= bytes.len() - at {
-        let end = text_end(bytes, at);
-        let from = at + 4;
-        say_text(&bytes[from..end], work, witness);
+// Any other mode is a line that says so.
+fn say_case(mode: u8, text: &[u8], work: &mut [u32], witness: &mut [u16]) {
+    if mode != b'w' {
+        say(b"no such mode: ");
+        io::print_hex(1, mode as u64, 2);
         end_line();
+        return;
+    }
+    say_text(text, work, witness);
+    end_line();
+}
+
+fn say_cases(bytes: &[u8], work: &mut [u32], witness: &mut [u16]) {
+    let mut at = 0;
+    while HEADER_BYTES <= bytes.len() - at {
+        let from = at + HEADER_BYTES;
+        let end = case_end(bytes, at);
+        say_case(bytes[at], &bytes[from..end], work, witness);
         at = end;
     }
 }
@@ -60,7 +73,7 @@ fn say_input(work: &mut [u32], witness: &mut [u16]) {
 fn say_sequence(work: &mut [u32], witness: &mut [u16]) {
     let mut bytes = sequences::room();
     let n = io::read_full(0, &mut bytes);
-    say_texts(&bytes[..n], work, witness);
+    say_cases(&bytes[..n], work, witness);
 }
 
 // Whether the program's first argument is `many`; one that is longer doesn't fit, and has length 0.
