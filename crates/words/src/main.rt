@@ -3,7 +3,6 @@
 //
 // With the argument `many`, standard input is a sequence of cases, as the crate `sequences` has it, whose mode is `w`; the words of each text are followed by
 // an empty line.
-mod bounds;
 mod counts;
 mod line;
 mod numbers;
@@ -15,20 +14,20 @@ mod verdicts;
 
 use crate::print::end_line;
 use crate::print::say;
-use crate::refusals::say_refused;
 use crate::refusals::say_too_long;
+use crate::refusals::say_unreadable;
 use crate::tables::say_table;
+use bounds::DESK_WORK;
+use bounds::LONGEST_INPUT;
+use bounds::MOST_WITNESS;
 use reader::Status;
 use reader::read;
 use sequences::HEADER_BYTES;
 use sequences::case_end;
 
-// A text of more bytes fills the input's 8,192, and more may follow.
-const MOST_BYTES: usize = 8191;
-
 // "A refused text or input gives only" its refusal, and "12 is checked before all".
 fn say_text(text: &[u8], work: &mut [u32], witness: &mut [u16]) {
-    if MOST_BYTES < text.len() {
+    if LONGEST_INPUT < text.len() {
         say_too_long();
         return;
     }
@@ -39,7 +38,7 @@ fn say_text(text: &[u8], work: &mut [u32], witness: &mut [u16]) {
         say_table(text, table, work, witness);
         return;
     };
-    say_refused(text, at);
+    say_unreadable(text, at);
 }
 
 // Any other mode is a line that says so.
@@ -65,7 +64,7 @@ fn say_cases(bytes: &[u8], work: &mut [u32], witness: &mut [u16]) {
 }
 
 fn say_input(work: &mut [u32], witness: &mut [u16]) {
-    let mut bytes = [0u8; 8192];
+    let mut bytes = [0u8; LONGEST_INPUT + 1];
     let n = io::read_full(0, &mut bytes);
     say_text(&bytes[..n], work, witness);
 }
@@ -96,8 +95,8 @@ fn is_many() -> bool {
 }
 
 fn main() {
-    let mut work = [0u32; 8192];
-    let mut witness = [0u16; 1407];
+    let mut work = [0u32; DESK_WORK];
+    let mut witness = [0u16; MOST_WITNESS];
     if is_many() {
         say_sequence(&mut work, &mut witness);
         return;
