@@ -22,7 +22,7 @@ use Rattle.meaning.specs.Demands.{vertexTotal}
 
 -- ---- the four add up
 
-one-kind : (vs : List Verdict) → length (ofKind 0 vs) + length (ofKind 1 vs) + length (ofKind 2 vs) + length (ofKind 3 vs) ≡ length vs
+pub one-kind : (vs : List Verdict) → length (ofKind 0 vs) + length (ofKind 1 vs) + length (ofKind 2 vs) + length (ofKind 3 vs) ≡ length vs
 one-kind [] = refl
 one-kind (meets c ∷ vs) = omega (arith, one-kind vs)
 one-kind (misses c ws ∷ vs) = omega (arith, one-kind vs)

@@ -1,5 +1,5 @@
 -- Laws of the words on lists: tests, members, sums, the largest. Assumes nothing.
-use mathlib.Core.Path.{_≡_, refl, sym, ap, subst, _∙_}
+use mathlib.Core.Path.{_≡_, refl, sym, ap, ap₂, subst, _∙_}
 use Prim.Native.Nat.{ℕ, zero, suc, _+_, _-_, _≤_, _<_}
 use native.Mathlib.Decide.{ℕ-discrete}
 use native.Mathlib.Nat.{sub-zero, zero-add}
@@ -124,6 +124,11 @@ module _ {X Y : Type 0} where
   pub map-append : (f : X → Y) (xs ys : List X) → map f (xs ++ ys) ≡ map f xs ++ map f ys
   map-append f [] ys = refl
   map-append f (x ∷ xs) ys = ap (λ (l : List Y). f x ∷ l) (map-append f xs ys)
+
+  -- two functions that agree on a list's members
+  pub map-mem : (f g : X → Y) (xs : List X) → ((x : X) → List·Memᴰ x xs → f x ≡ g x) → map f xs ≡ map g xs
+  map-mem f g [] h = refl
+  map-mem f g (x ∷ xs) h = ap₂ (λ (y : Y) (ys : List Y). y ∷ ys) (h x (List·Memᴰ·head refl)) (map-mem f g xs (λ z m. h z (List·Memᴰ·tail m)))
 
 -- ---- numbers
 
