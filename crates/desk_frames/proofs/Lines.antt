@@ -7,6 +7,7 @@ use mathlib.Core.List.{List, [], _∷_, _++_}
 use lib.ListN.{length, set, take, getD, length-append}
 use lib.Seq.{take-suc, take-all}
 use Rattle.meaning.specs.Lists.{gather}
+use Rattle.meaning.specs.Bounds.{lineLength}
 use Rattle.meaning.specs.Text.{lineFeed}
 use Rattle.meaning.specs.Paths.{Path}
 use Rattle.meaning.specs.Desk.{digit, digits, line, pathFrame}
@@ -32,7 +33,7 @@ digits-length : (xs : List ℕ) → length (gather digits xs) ≡ 2 * length xs
 digits-length [] = refl
 digits-length (x ∷ xs) = omega (arith, digits-length xs)
 
-pub line-length : (f : List ℕ) → length (line f) ≡ 2 * length f + 1
+pub line-length : (f : List ℕ) → length (line f) ≡ lineLength (length f)
 line-length f = rw length-append (omega (arith, digits-length f))
 
 -- how far the digits reach
