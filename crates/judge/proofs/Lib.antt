@@ -3,7 +3,7 @@ pub mod Walking
 pub mod Sheet
 pub mod OneVertex
 pub mod Remaining
-pub mod Totals
+pub mod SoFar
 pub mod WholeTable
 pub mod Answers
 pub mod Cases

@@ -9,7 +9,7 @@ use lib.ListN.{length, length-append}
 use lib.Dec.{ltb}
 use borrow.Author.Tests.{lt-ltb, le-ltb}
 use Rattle.meaning.specs.Lists.{pick, gather}
-use Rattle.meaning.specs.Bounds.{longestInput}
+use Rattle.meaning.specs.Bounds.{longestInput, longestOutput}
 use Rattle.meaning.specs.Table as Meant
 use Rattle.meaning.specs.Text.{Reading, readable, unreadable, read}
 use Rattle.meaning.specs.Sound.{SoundTable}
@@ -24,8 +24,8 @@ use Rattle.reader.proofs.Result.{TableRead, LineRefused}
 use Rattle.meaning.specs.Areas.{Wrote}
 use Rattle.desk_frames.proofs.Lines.{line-length}
 use Rattle.meaning.proofs.Wrote.{wrote-none, wrote-length}
-use Rattle.judge.specs.Desk.{longestOutput, tableOutput, outputInto}
-use Rattle.judge.proofs.DeskLines.{linesOf, countsLine, table-lines, lines-fit}
+use Rattle.judge.specs.Desk.{tableOutput, outputInto}
+use Rattle.judge.proofs.DeskLines.{linesOf, lastLine, table-lines, lines-fit}
 
 module _ (text : List ℕ) where
   -- 12 is checked before all
@@ -66,9 +66,9 @@ module _ (text : List ℕ) where
 -- ---- what is written fits the area
 
 table-fits : (ts : Meant.Table) → SoundTable ts → length (gather line (tableFrames ts)) ≤ longestOutput
-unfolding countsLine
+unfolding lastLine
 table-fits ts s =
-    omega (arith, ap length (table-lines ts), length-append (linesOf ts (places ts)) (countsLine ts), line-length (countsFrame (countsOf (map (deskVerdict ts) (places ts)))), lines-fit ts s)
+    omega (arith, ap length (table-lines ts), length-append (linesOf ts (places ts)) (lastLine ts), line-length (countsFrame (countsOf (map (deskVerdict ts) (places ts)))), lines-fit ts s)
 
 reading-fits : (text : List ℕ) (m : Reading) → read text ≡ m → length (gather line (readingFrames m)) ≤ longestOutput
 reading-fits text (readable ts) e = table-fits ts (readable-sound text ts e)

@@ -2,14 +2,15 @@
 // "Every public judging call takes the text itself, never a table record, and takes the reading apart first: a readable table goes on, anything else
 // returns at once."
 mod desk;
-mod four_counts;
-mod places;
 mod vertex;
 mod whole;
 
 use crate::desk::table_lines;
 use crate::vertex::judge_vertex;
 use crate::whole::count_verdicts;
+use bounds::LONGEST_INPUT;
+use bounds::LONGEST_OUTPUT;
+use counts::Counts;
 use desk_frames::refusal_line;
 use kinds::Refusal;
 use kinds::RefusedAt;
@@ -20,23 +21,11 @@ use reader::Status;
 use reader::read;
 ghost use mathlib.Core.Path.{_≡_};
 ghost use lib.ListN.{length};
+ghost use Rattle.meaning.specs.Bounds.{longestOutput};
 ghost use Rattle.meaning.specs.Areas.{Wrote};
 ghost use Rattle.judge.specs.Judged.{Judged};
 ghost use Rattle.judge.specs.Whole.{TableJudged};
-ghost use Rattle.judge.specs.Desk.{longestOutput, noOutput, outputInto};
-
-// The longest input that is read as a text, and room for any output.
-const LONGEST_INPUT: usize = 8191;
-
-const LONGEST_OUTPUT: usize = 275147;
-
-// Of a table's vertices, at most 96 in all: how many meet, miss, are unfinished and are refused.
-pub struct Counts {
-    pub meeting: u8,
-    pub missing: u8,
-    pub unfinishing: u8,
-    pub refusing: u8,
-}
+ghost use Rattle.judge.specs.Desk.{noOutput, outputInto};
 
 // A table that is readable has its four counts.
 pub enum TableVerdict {

@@ -2,9 +2,9 @@
 //
 // Judges many whole tables in one run, with the desk's budget. Standard input is a sequence of texts, each preceded by its length in 4 bytes, high byte
 // first. A line is written for each: the desk's last frame, of the four counts, or its frame of a refused text.
+use counts::Counts;
 use desk_frames::counts_line;
 use desk_frames::refusal_line;
-use judge::Counts;
 use judge::TableVerdict;
 use kinds::RefusedAt;
 use sequences::text_end;

@@ -1,12 +1,22 @@
-// "How many meet, miss, are unfinished and are refused."
-use crate::Counts;
+// "Returns how many meet, miss, are unfinished and are refused", for each vertex "in rising order of task and then vertex": the four counts, one verdict
+// after the other, and in `places` which vertex is next. On numbers alone: nothing here knows a table.
+pub mod places;
+
 use kinds::Verdict;
 ghost use mathlib.Core.Path.{_≡_};
 ghost use Prim.Native.Nat.{_*_, _<_};
 ghost use Rattle.meaning.specs.Bounds.{mostTasks, mostVertices};
-ghost use Rattle.judge.specs.Whole.{noCounts, oneMore, total};
+ghost use Rattle.counts.specs.Counts.{noCounts, oneMore, total};
 
-pub(crate) fn no_counts() -> Counts
+// Of a table's vertices, at most 96 in all: how many meet, miss, are unfinished and are refused.
+pub struct Counts {
+    pub meeting: u8,
+    pub missing: u8,
+    pub unfinishing: u8,
+    pub refusing: u8,
+}
+
+pub fn no_counts() -> Counts
     ensures { λ r. ⌜ r ≡ noCounts ⌝ }
 {
     Counts {
@@ -18,7 +28,7 @@ pub(crate) fn no_counts() -> Counts
 }
 
 // One more of the verdict's kind.
-pub(crate) fn counted(c: Counts, x: Verdict) -> Counts
+pub fn counted(c: Counts, x: Verdict) -> Counts
     requires { ⌜ total c < mostTasks * mostVertices ⌝ }
     ensures { λ r. ⌜ r ≡ oneMore c x ⌝ }
 {

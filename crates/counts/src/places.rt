@@ -1,17 +1,15 @@
 // "For each vertex, in rising order of task and then vertex."
 use kinds::TaskNumber;
 use kinds::VertexNumber;
-use table::Table;
 ghost use mathlib.Core.Path.{_≡_};
-ghost use Rattle.table.specs.Record.{tableOf, Held};
-ghost use Rattle.judge.specs.Whole.{meantPlace, firstPlace, nextPlace, There};
+ghost use Rattle.counts.specs.Place.{meantPlace, firstPlace, nextPlace, Within};
 
-pub(crate) struct Place {
+pub struct Place {
     pub task: TaskNumber,
     pub vertex: VertexNumber,
 }
 
-pub(crate) fn first_place() -> Place
+pub fn first_place() -> Place
     ensures { λ r. ⌜ meantPlace r ≡ firstPlace ⌝ }
 {
     Place {
@@ -20,15 +18,14 @@ pub(crate) fn first_place() -> Place
     }
 }
 
-// The task's next vertex, else the next task's first.
-pub(crate) fn next_place(t: Table, at: Place) -> Place
-    requires { ⌜ Held t × There (tableOf t) (meantPlace at) ⌝ }
-    ensures { λ r. ⌜ meantPlace r ≡ nextPlace (tableOf t) (meantPlace at) ⌝ }
+// Where the present task has `size` vertices: its next one, else the next task's first.
+pub fn next_place(size: usize, at: Place) -> Place
+    requires { ⌜ Within (meantPlace at) ⌝ }
+    ensures { λ r. ⌜ meantPlace r ≡ nextPlace size (meantPlace at) ⌝ }
 {
     let task = at.task;
-    let own = t.tasks[task.0 as usize];
     let next = at.vertex.0 + 1;
-    if (next as usize) < own.nv {
+    if (next as usize) < size {
         return Place {
             task,
             vertex: VertexNumber(next),

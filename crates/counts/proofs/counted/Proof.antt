@@ -1,8 +1,8 @@
 use mathlib.Core.Path.{sym, ap}
-use Rattle.judge.specs.Whole.{oneMore}
+use Rattle.counts.specs.Counts.{oneMore}
 use borrow.Author.Needs.{needs}
-use Rattle.judge.proofs.four_counts.counted.Statement.{statement}
-use Rattle.judge.proofs.four_counts.counted.Tie as tie
+use Rattle.counts.proofs.counted.Statement.{statement}
+use Rattle.counts.proofs.counted.Tie as tie
 
 enum-told : tie.Need-enum-told
 enum-told c = search needs
