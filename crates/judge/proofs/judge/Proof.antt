@@ -14,7 +14,10 @@ enum-told : tie.Need-enum-told
 enum-told c = search needs
 
 judge-vertex-requires : tie.Need-judge-vertex-requires
-judge-vertex-requires c κs = read-held (table-read (c .before .before .before .before .before .before .before .before .before .args .text .now) (c .before .before .before .before .before .read .result) (c .before .before .before .before .before .read .ensures) (c .before .before .before .enum-told .given .1))
+judge-vertex-requires c κs =
+    let told = c .before .before .before in
+    let was = told .before .before in
+    read-held (table-read (was .before .before .before .before .args .text .now) (was .read .result) (was .read .ensures) (told .enum-told .given .1))
 
 same-length : tie.Need-same-length
 same-length c = search needs
@@ -23,10 +26,21 @@ same-length-2 : tie.Need-same-length-2
 same-length-2 c = search needs
 
 returns : tie.Need-returns
-returns c = table-answers (c .before .before .before .before .before .before .before .before .before .before .before .before .before .before .args .text .now) ((c .before .before .before .before .before .before .before .before .before .before .before .before .before .before .args .task) .0) ((c .before .before .before .before .before .before .before .before .before .before .before .before .before .before .args .vertex) .0) (c .before .before .before .before .before .before .before .before .before .before .before .before .before .before .args .budget) (c .before .before .before .before .before .before .before .before .before .before .before .before .before .before .args .work .now) (c .before .before .before .before .before .before .before .before .before .before .before .before .before .before .args .witness .now) (c .before .before .before .before .before .before .before .before .before .before .read .result .table) (c .before .before .before .before .judge-vertex .result) _ _ (table-read (c .before .before .before .before .before .before .before .before .before .before .before .before .before .before .args .text .now) (c .before .before .before .before .before .before .before .before .before .before .read .result) (c .before .before .before .before .before .before .before .before .before .before .read .ensures) (c .before .before .before .before .before .before .before .before .enum-told .given .1)) (c .before .before .before .before .judge-vertex .ensures)
+returns c =
+    let judged = c .before .before .before .before .judge-vertex in
+    let told = c .before .before .before .before .before .before .before .before in
+    let was = told .before .before in
+    let s = was .before .before .before .before .args in
+    let table = table-read (s .text .now) (was .read .result) (was .read .ensures) (told .enum-told .given .1) in
+    table-answers (s .text .now) (s .task .0) (s .vertex .0) (s .budget) (s .work .now) (s .witness .now) (was .read .result .table) (judged .result) _ _ table (judged .ensures)
 
 returns-2 : tie.Need-returns-2
-returns-2 c = text-refuses (c .before .before .before .before .before .before .before .args .text .now) ((c .before .before .before .before .before .before .before .args .task) .0) ((c .before .before .before .before .before .before .before .args .vertex) .0) (c .before .before .before .before .before .before .before .args .budget) (c .before .before .before .before .before .before .before .args .work .now) (c .before .before .before .before .before .before .before .args .witness .now) ((c .before .status .given .0 .0)) (line-refused (c .before .before .before .before .before .before .before .args .text .now) (c .before .before .before .read .result) (c .before .before .before .read .ensures) (c .before .status .given .1))
+returns-2 c =
+    let told = c .before .status .given in
+    let was = c .before .before .before in
+    let s = was .before .before .before .before .args in
+    let line = line-refused (s .text .now) (was .read .result) (was .read .ensures) (told .1) in
+    text-refuses (s .text .now) (s .task .0) (s .vertex .0) (s .budget) (s .work .now) (s .witness .now) (told .0 .0) line
 
 pub judge-spec : {M : Type 1} → statement M
 judge-spec =
