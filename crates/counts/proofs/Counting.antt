@@ -22,7 +22,13 @@ use Rattle.counts.specs.Counts.{meantCounts, noCounts, totalOf, total, o
 -- ---- sums of counts
 
 abbrev plus : Meant.Counts → Meant.Counts → Meant.Counts
-plus a b = record { meeting = a .meeting + b .meeting; missing = a .missing + b .missing; unfinishing = a .unfinishing + b .unfinishing; refusing = a .refusing + b .refusing }
+plus a b =
+    record {
+      meeting = a .meeting + b .meeting;
+      missing = a .missing + b .missing;
+      unfinishing = a .unfinishing + b .unfinishing;
+      refusing = a .refusing + b .refusing;
+    }
 
 -- one verdict of kind n
 abbrev one : ℕ → Meant.Counts

@@ -41,7 +41,8 @@ pub digits-end : (f : List ℕ) {out after : List ℕ} {at next : ℕ} → Wrote
 digits-end f {at = at} w = w .end ∙ ap (λ (k : ℕ). at + k) (digits-length f)
 
 -- and then the line feed
-pub wrote-line : (f : List ℕ) {out mid : List ℕ} {at next : ℕ} → Wrote (gather digits f) out at mid next → Wrote (line f) out at (set mid next lineFeed) (next + 1)
+pub wrote-line : (f : List ℕ) {out mid : List ℕ} {at next : ℕ} → Wrote (gather digits f) out at mid next
+    → Wrote (line f) out at (set mid next lineFeed) (next + 1)
 wrote-line f {mid = mid} {next = next} w = wrote-then (gather digits f) (lineFeed ∷ []) w (record { cells = refl; end = refl })
 
 -- after i of the bytes
@@ -75,6 +76,7 @@ putting-all {bytes} {out} {now} {at} {next} {i} p h = subst (λ (l : List ℕ). 
 
 -- ---- a path's frame: its head, then its vertices
 
-pub head-then : (i : ℕ) (w : Path) {out mid after : List ℕ} {at next last : ℕ} → Wrote (gather digits (17 ∷ i ∷ length w ∷ [])) out at mid next → Wrote (gather digits w) mid next after last
+pub head-then : (i : ℕ) (w : Path) {out mid after : List ℕ} {at next last : ℕ}
+    → Wrote (gather digits (17 ∷ i ∷ length w ∷ [])) out at mid next → Wrote (gather digits w) mid next after last
     → Wrote (gather digits (pathFrame i w)) out at after last
 head-then i w a b = wrote-then (gather digits (17 ∷ i ∷ length w ∷ [])) (gather digits w) a b

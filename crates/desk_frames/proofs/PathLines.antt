@@ -120,7 +120,8 @@ module _ {h : ℕ} {cells out now : List ℕ} {at next k i : ℕ} (p : Pathing h
     pub path-asks : (next + pathLine (length (part cells k m)) ≤ length now) × FitsByte (length (part cells k m)) × Bytes (part cells k m)
     path-asks = (omega (arith, room, p .room, p .same, p .wrote .end), omega (arith, part-length, ahead .short), ahead .bytes)
 
-    pub pathing-more : {after : List ℕ} {last : ℕ} → Wrote (line (pathFrame i (part cells k m))) now next after last → Pathing h cells out at after last (k + 1 + m) (i + 1)
+    pub pathing-more : {after : List ℕ} {last : ℕ} → Wrote (line (pathFrame i (part cells k m))) now next after last
+        → Pathing h cells out at after last (k + 1 + m) (i + 1)
     unfolding own behind
     pathing-more {after} {last} w =
         record {
@@ -134,7 +135,8 @@ module _ {h : ℕ} {cells out now : List ℕ} {at next k i : ℕ} (p : Pathing h
           same = wrote-length w ∙ p .same;
         }
 
-pub pathing-all : {h : ℕ} {cells out now : List ℕ} {at next k i : ℕ} → Pathing h cells out at now next k i → h ≤ i → Wrote (pathLines 0 (cellPaths h cells)) out at now next
+pub pathing-all : {h : ℕ} {cells out now : List ℕ} {at next k i : ℕ} → Pathing h cells out at now next k i → h ≤ i
+    → Wrote (pathLines 0 (cellPaths h cells)) out at now next
 pathing-all {h} {cells} {out} {now} {at} {next} {k} {i} p l =
     let none : h - i ≡ 0 = omega arith in
     let all = p .whole ∙ ap (λ (n : ℕ). p .done ++ pathLines i (cellPaths n (drop k cells))) none ∙ append-nil (p .done) in

@@ -1,4 +1,4 @@
--- What a C host is told settles the answer: no two results satisfy a statement, and a whole table's answer can be taken out of its number again. Assumes nothing.
+-- What a C host is told settles the answer: no two results satisfy a statement, and a whole table's answer can be taken out of its number. Assumes nothing.
 use mathlib.Core.Path.{_≡_, refl, sym, ap, subst, _∙_}
 use Prim.Native.Nat.{ℕ, _+_, _*_, _/_, _%_, _≤_}
 use native.Mathlib.Omega.{arith}
@@ -33,7 +33,8 @@ counts-unpacked c f =
     let byte : ℕ → ℕ = λ n. n % 256 in
     (omega (arith, f), omega (arith, f), ap byte second ∙ omega (arith, f), ap byte third ∙ omega (arith, f), omega (arith, f))
 
-pub table-unpacked : (text : List ℕ) (b : ℕ) (work : List ℕ) (r : ℕ) (work′ : List ℕ) → TableTold text b work r work′ → Unpacked (tableAnswer (read text) b (length work)) r
+pub table-unpacked : (text : List ℕ) (b : ℕ) (work : List ℕ) (r : ℕ) (work′ : List ℕ) → TableTold text b work r work′
+    → Unpacked (tableAnswer (read text) b (length work)) r
 table-unpacked text b work r work′ p =
     subst (Unpacked (tableAnswer (read text) b (length work))) (sym (p .number)) (go (read text) refl)
   where

@@ -25,4 +25,5 @@ vertex-told text i v b work wit r work′ wit′ j number value place p q s =
 -- of a whole table, from the case that its verdict was taken apart into
 pub table-told : (text : List ℕ) (b : ℕ) (work : List ℕ) (r s : TableVerdict) (work′ : List ℕ) → TableJudged text b work r work′ → r ≡ s
     → (n : ℕ) → n ≡ tableNumber (answerOf s) → TableTold text b work n work′
-table-told text b work r s work′ j q n p = record { number = p ∙ ap (λ (x : TableVerdict). tableNumber (answerOf x)) (sym q) ∙ ap tableNumber (j .verdict); cells = j .cells }
+table-told text b work r s work′ j q n p =
+    record { number = p ∙ ap (λ (x : TableVerdict). tableNumber (answerOf x)) (sym q) ∙ ap tableNumber (j .verdict); cells = j .cells }

@@ -85,7 +85,11 @@ module _ {t : Table} {out now work wit : List ℕ} {c : Counts} {q : Place} {at 
         let all = ap length splits ∙ length-append (d .done ++ vertexLines ts q) behind in
         omega (arith, all, length-append (d .done) (vertexLines ts q), d .wrote .end, d .same, d .room, lines-fit ts sound)
 
-    module _ {r : Verdict} {work′ wit′ : List ℕ} (a : Answered (judged ts (q .task) (q .vertex) deskBudget (length work) (length wit)) (workNeed ts (q .task) (q .vertex)) work wit r work′ wit′) where
+    abbrev Judged : Verdict → List ℕ → List ℕ → Type 0
+    Judged r work′ wit′ =
+        Answered (judged ts (q .task) (q .vertex) deskBudget (length work) (length wit)) (workNeed ts (q .task) (q .vertex)) work wit r work′ wit′
+
+    module _ {r : Verdict} {work′ wit′ : List ℕ} (a : Judged r work′ wit′) where
       shown : Shown ts q r wit′
       shown = vertex-shown ts sound q (so-far-in (d .so-far) h) (d .works) (d .wits) a
 

@@ -33,14 +33,17 @@ remaining-first (k ∷ ks) = rw (sub-zero (length (k .vertices)))
 pub remaining-none : (ts : Table) (q : Place) → length ts ≤ q .task → remaining ts q ≡ []
 remaining-none ts q h =
     let none : size ts (q .task) ≡ 0 = ap (λ (k : Task). length (k .vertices)) (List·getD-eq-default ts noTask h) in
-    let e : size ts (q .task) - q .vertex ≡ 0 = omega arith in
-    ap₂ (λ (n : ℕ) (ks : List Task). map (at (q .task)) (countFrom (q .vertex) n) ++ placesFrom (suc (q .task)) ks) e (drop-of-length-le ts {i = suc (q .task)} (omega arith))
+    let own : size ts (q .task) - q .vertex ≡ 0 = omega arith in
+    let rest : drop (suc (q .task)) ts ≡ [] = drop-of-length-le ts {i = suc (q .task)} (omega arith) in
+    ap₂ (λ (n : ℕ) (ks : List Task). map (at (q .task)) (countFrom (q .vertex) n) ++ placesFrom (suc (q .task)) ks) own rest
 
 -- the tasks from a number on
 from-task : (ts : Table) (i : ℕ) → remaining ts (at i 0) ≡ placesFrom i (drop i ts)
 from-task ts i =
     elim (decLt i (length ts)) [
-      | yes h ↦ ap (λ (n : ℕ). map (at i) (countFrom 0 n) ++ placesFrom (suc i) (drop (suc i) ts)) (sub-zero (size ts i)) ∙ sym (ap (placesFrom i) (drop-cons ts i noTask h))
+      | yes h ↦
+          ap (λ (n : ℕ). map (at i) (countFrom 0 n) ++ placesFrom (suc i) (drop (suc i) ts)) (sub-zero (size ts i))
+          ∙ sym (ap (placesFrom i) (drop-cons ts i noTask h))
       | no h ↦ remaining-none ts (at i 0) (omega arith) ∙ sym (ap (placesFrom i) (drop-of-length-le ts {i = i} (omega arith)))
     ]
 

@@ -35,7 +35,8 @@ module _ (ts : Table) (s : SoundTable ts) (q : Place) (m : List·Memᴰ q (place
   x = deskVerdict ts q
 
   -- a miss's paths stand in the area, whatever is behind them
-  cells-show : (c : ℕ) (ws : List Path) (rest : List ℕ) → x ≡ misses c ws → WholePaths (q .task) (cellsOf ws ++ rest) × (cellPaths (q .task) (cellsOf ws ++ rest) ≡ ws)
+  cells-show : (c : ℕ) (ws : List Path) (rest : List ℕ) → x ≡ misses c ws
+      → WholePaths (q .task) (cellsOf ws ++ rest) × (cellPaths (q .task) (cellsOf ws ++ rest) ≡ ws)
   cells-show c ws rest e =
       let p = place-in ts q m in
       let many = miss-count ts s (q .task) (q .vertex) (p .0) (p .1) deskBudget deskWork deskWitness c ws e in
@@ -68,5 +69,5 @@ module _ (ts : Table) (s : SoundTable ts) (q : Place) (m : List·Memᴰ q (place
   pub vertex-shown : {work wit work′ wit′ : List ℕ} {need : ℕ} {r : Verdict} → length work ≡ deskWork → length wit ≡ deskWitness
       → Answered (judged ts (q .task) (q .vertex) deskBudget (length work) (length wit)) need work wit r work′ wit′ → Shown ts q r wit′
   vertex-shown {work} {wit} {wit′ = wit′} {r = r} a b j =
-      let is : judged ts (q .task) (q .vertex) deskBudget (length work) (length wit) ≡ x = ap₂ (λ (n k : ℕ). judged ts (q .task) (q .vertex) deskBudget n k) a b in
+      let is = ap₂ (judged ts (q .task) (q .vertex) deskBudget) a b in
       shows r wit wit′ (j .verdict ∙ ap numbers is) (j .paths ∙ ap (λ (y : Said.Verdict). witnessAfter y wit) is)

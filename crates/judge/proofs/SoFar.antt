@@ -21,7 +21,8 @@ use Rattle.counts.specs.Counts.{meantCounts, noCounts, total, oneMore}
 use Rattle.counts.specs.Place.{firstPlace}
 use Rattle.counts.proofs.Counting.{Counting, counting-none, counting-more, counting-all, counting-few}
 use Rattle.judge.specs.Whole.{nextIn, There}
-use Rattle.judge.proofs.Remaining.{remaining, remaining-first, remaining-next, remaining-none, Reached, reached-first, reached-there, reached-in, reached-next, reached-fewer}
+use Rattle.judge.proofs.Remaining.{remaining, remaining-first, remaining-next, remaining-none}
+use Rattle.judge.proofs.Remaining.{Reached, reached-first, reached-there, reached-in, reached-next, reached-fewer}
 
 -- the verdicts of some vertices are still to be counted
 abbrev ToCount : Table → ℕ → ℕ → Counts → List Place → Type 0
@@ -76,10 +77,11 @@ module _ {t : Table} {b work : ℕ} {c : Counts} {q : Place} (k : SoFar t b work
     so-far-fewer e = subst (λ (p : Place). length (remaining (tableOf t) p) < length (remaining (tableOf t) q)) (sym e) (reached-fewer (k .reached) l)
 
     -- a judging with this budget and as many work cells says what the whole table's does
-    pub so-far-said : {cells wits : ℕ} → cells ≡ work → wits ≡ deskWitness → judged (tableOf t) (q .task) (q .vertex) b cells wits ≡ verdictAt (tableOf t) b work q
+    pub so-far-said : {cells wits : ℕ} → cells ≡ work → wits ≡ deskWitness
+        → judged (tableOf t) (q .task) (q .vertex) b cells wits ≡ verdictAt (tableOf t) b work q
     so-far-said e f = rw (e, f) (sym (verdict-at (tableOf t) b work deskWitness q so-far-in (desk-witness (tableOf t) (k .held .sound) q so-far-in)))
 
-    pub so-far-more : (r : Verdict) {n : Counts} {p : Place} → verdictNumbers r ≡ numbers (verdictAt (tableOf t) b work q) → n ≡ oneMore c r → p ≡ nextIn (tableOf t) q
-        → SoFar t b work n p
+    pub so-far-more : (r : Verdict) {n : Counts} {p : Place} → verdictNumbers r ≡ numbers (verdictAt (tableOf t) b work q)
+        → n ≡ oneMore c r → p ≡ nextIn (tableOf t) q → SoFar t b work n p
     so-far-more r x e f =
         rw (e, f) (record { held = k .held; reached = reached-next (k .reached) l (k .held .sound); counts = counting-more counts-next r x })

@@ -42,10 +42,15 @@ part-path-line-start : tie.Need-part-path-line-start Inv-loop μ-loop
 part-path-line-start c = omega (arith, inside (c .before .before .before .before .loop .inv) (search needs))
 
 part-path-line-end : tie.Need-part-path-line-end Inv-loop μ-loop
-part-path-line-end c = let long = ahead (c .before .before .before .before .loop .inv) (search needs) (c .before .wide .result) (c .before .wide .ensures) .long in omega (arith, long)
+part-path-line-end c =
+    let read = c .before .wide in
+    let next = ahead (c .before .before .before .before .loop .inv) (search needs) (read .result) (read .ensures) in
+    omega (arith, next .long)
 
 path-line-requires : tie.Need-path-line-requires Inv-loop μ-loop
-path-line-requires c κs = let read = c .before .before .wide in path-asks (c .before .before .before .before .before .loop .inv) (search needs) (read .result) (read .ensures)
+path-line-requires c κs =
+    let read = c .before .before .wide in
+    path-asks (c .before .before .before .before .before .loop .inv) (search needs) (read .result) (read .ensures)
 
 add-i : tie.Need-add-i Inv-loop μ-loop
 add-i c = search needs
