@@ -2,7 +2,7 @@
 use mathlib.Core.Path.{_≡_, refl, sym, ap, subst, _∙_}
 use Prim.Native.Nat.{ℕ, _+_, _≤_, _<_}
 use native.Mathlib.Omega.{arith}
-use mathlib.Core.List.{List, [], _++_, map, append-nil, append-assoc, List·Memᴰ}
+use mathlib.Core.List.{List, [], _++_, map, append-nil, append-assoc}
 use lib.ListN.{length, length-append}
 use Rattle.meaning.specs.Bounds.{deskBudget, deskWork, deskWitness, countsLine, longestOutput}
 use Rattle.meaning.specs.Table as Meant
