@@ -23,13 +23,10 @@ same-length-2 c = search needs
 
 returns : tie.Need-returns
 returns c =
-    let number = c .verdict-number in
-    let place = c .before .verdict-place in
-    let value = c .before .before .verdict-value in
     let was = c .before .before .before .before .before .before .before in
     let s = was .before .before .before .before .before .before .args in
-    vertex-told (s .text .now) (s .task) (s .vertex) (s .budget) (s .work .now) (s .witness .now) (was .judge .result) _ _ (was .judge .ensures)
-    (number .result) (value .result) (place .result) (number .ensures) (value .ensures) (place .ensures)
+    vertex-told (s .text .now) (s .task) (s .vertex) (s .budget) (was .judge .result) (was .judge .ensures)
+    (c .verdict-number .ensures) (c .before .before .verdict-value .ensures) (c .before .verdict-place .ensures)
 
 pub tectavirio-judge-spec : {M : Type 1} → statement M
 tectavirio-judge-spec =

@@ -39,11 +39,7 @@ same-length : tie.Need-same-length
 same-length c = search needs
 
 returns : tie.Need-returns
-returns c =
-    let was = c .before .before .before .before .before .before in
-    let s = was .before .before .before .before .args in
-    table-told (s .text .now) (s .budget) (s .work .now) (was .judge-table .result) _ _ (was .judge-table .ensures) (c .before .before .verdict .given .1)
-    (c .counts-number .result) (c .counts-number .ensures)
+returns c = table-told (c .before .before .before .before .before .before .judge-table .ensures) (c .before .before .verdict .given .1) (c .counts-number .ensures)
 
 same-length-2 : tie.Need-same-length-2
 same-length-2 c = search needs
@@ -51,10 +47,8 @@ same-length-2 c = search needs
 returns-2 : tie.Need-returns-2
 returns-2 c =
     let told = c .before .before .before .verdict2 .given in
-    let was = c .before .before .before .before .before .before .before in
-    let s = was .before .before .before .before .args in
-    table-told (s .text .now) (s .budget) (s .work .now) (was .judge-table .result) _ _ (was .judge-table .ensures) (told .1)
-    _ (ap (λ (n : ℕ). n * 4294967296 + told .0 .0 .place) (c .before .refusal-number .ensures))
+    let number = c .before .refusal-number in
+    table-told (c .before .before .before .before .before .before .before .judge-table .ensures) (told .1) (ap (λ (n : ℕ). n * 4294967296 + told .0 .0 .place) (number .ensures))
 
 pub tectavirio-judge-table-spec : {M : Type 1} → statement M
 tectavirio-judge-table-spec =
