@@ -76,7 +76,10 @@ putting-all {bytes} {out} {now} {at} {next} {i} p h = subst (λ (l : List ℕ). 
 
 -- ---- a path's frame: its head, then its vertices
 
+abbrev pathHead : ℕ → Path → List ℕ
+pathHead i w = 17 ∷ i ∷ length w ∷ []
+
 pub head-then : (i : ℕ) (w : Path) {out mid after : List ℕ} {at next last : ℕ}
-    → Wrote (gather digits (17 ∷ i ∷ length w ∷ [])) out at mid next → Wrote (gather digits w) mid next after last
+    → Wrote (gather digits (pathHead i w)) out at mid next → Wrote (gather digits w) mid next after last
     → Wrote (gather digits (pathFrame i w)) out at after last
-head-then i w a b = wrote-then (gather digits (17 ∷ i ∷ length w ∷ [])) (gather digits w) a b
+head-then i w a b = wrote-then (gather digits (pathHead i w)) (gather digits w) a b
