@@ -5,21 +5,24 @@
 
 #include "tectavirio.h"
 
-/* As the desk program does, check reads into 8,192 bytes: refusal 12 is "program only: input longer than 8,191 bytes". */
-enum { ROOM = 8192, TOO_LONG = 12 };
+/* As the desk program does, check reads a byte more than an input may have: refusal 12 is "program only: input longer than 8,191 bytes". */
+enum { ROOM = TECTAVIRIO_LONGEST_INPUT + 1, TOO_LONG = 12 };
 
 enum { READABLE = 0, REFUSED = 1, NO_ANSWER = 2 };
 
-/* The rows of the refusal sheet that refuse a text, 1 to 7. */
-static const char *const ROWS[] = {
-    "a line must be pairs of the digits 0-9a-f, at least one pair, and end in a line feed",
-    "this kind of frame isn't allowed here, or its length is wrong for its kind",
-    "a number is outside its bounds, or an edge names a vertex that the task hasn't",
-    "the deadline of the edge's starting vertex exceeds the separation",
-    "the edge doesn't come after the one before it in its task",
-    "the text ends and no end frame was read",
-    "there are bytes after the end frame",
-};
+/* The row of the refusal sheet that refuses a text; none for a number that no text is refused by. */
+static const char *row_of(unsigned number) {
+    switch (number) {
+    case 1: return "a line must be pairs of the digits 0-9a-f, at least one pair, and end in a line feed";
+    case 2: return "this kind of frame isn't allowed here, or its length is wrong for its kind";
+    case 3: return "a number is outside its bounds, or an edge names a vertex that the task hasn't";
+    case 4: return "the deadline of the edge's starting vertex exceeds the separation";
+    case 5: return "the edge doesn't come after the one before it in its task";
+    case 6: return "the text ends and no end frame was read";
+    case 7: return "there are bytes after the end frame";
+    default: return NULL;
+    }
+}
 
 /* Reads as much of the file as there is room for; gives 0 where it can't, and says why. */
 static int read_file(const char *name, uint8_t *bytes, size_t room, size_t *count) {
@@ -38,7 +41,7 @@ static int read_file(const char *name, uint8_t *bytes, size_t room, size_t *coun
 
 static int say_checked(const uint8_t *text, size_t count) {
     if (count == ROOM) {
-        printf("REFUSED (%d): the input is longer than %d bytes\n", TOO_LONG, ROOM - 1);
+        printf("REFUSED (%d): the input is longer than %d bytes\n", TOO_LONG, TECTAVIRIO_LONGEST_INPUT);
         return REFUSED;
     }
     uint32_t checked = text_check(text, count);
@@ -47,7 +50,12 @@ static int say_checked(const uint8_t *text, size_t count) {
         puts("READABLE");
         return READABLE;
     }
-    printf("REFUSED (%u) at line %u: %s\n", number, line, ROWS[number - 1]);
+    const char *row = row_of(number);
+    if (row == NULL) {
+        fprintf(stderr, "check: the text check refused by number %u at line %u, which check doesn't know\n", number, line);
+        return NO_ANSWER;
+    }
+    printf("REFUSED (%u) at line %u: %s\n", number, line, row);
     return REFUSED;
 }
 

@@ -14,6 +14,26 @@
 #include <stddef.h>
 #include <stdint.h>
 
+/* The bounds: how many tasks a table has and vertices a task, the largest d, how many complete paths a higher task may have, and the longest input of the
+ * desk program in bytes. */
+#define TECTAVIRIO_MOST_TASKS 8
+#define TECTAVIRIO_MOST_VERTICES 12
+#define TECTAVIRIO_LARGEST_D 200
+#define TECTAVIRIO_MOST_PATHS 64
+#define TECTAVIRIO_LONGEST_INPUT 8191
+
+/* What follows from them: as many higher tasks as a vertex can have, and as many work and witness cells as any vertex needs. */
+#define TECTAVIRIO_MOST_HIGHER (TECTAVIRIO_MOST_TASKS - 1)
+#define TECTAVIRIO_MOST_WORK (TECTAVIRIO_LARGEST_D * TECTAVIRIO_MOST_HIGHER * (2 * TECTAVIRIO_MOST_PATHS - 1))
+#define TECTAVIRIO_MOST_WITNESS (TECTAVIRIO_MOST_HIGHER * (1 + TECTAVIRIO_LARGEST_D))
+
+/* The bytes of an output line with so many bytes in its frame: two digits for each, and the line feed. */
+#define TECTAVIRIO_LINE(frame_bytes) (2 * (frame_bytes) + 1)
+
+/* Room for any output of the desk program: for each vertex its verdict's line and one for the longest path of each higher task, then the four counts. */
+#define TECTAVIRIO_LONGEST_VERTEX (TECTAVIRIO_LINE(8) + TECTAVIRIO_MOST_HIGHER * TECTAVIRIO_LINE(3 + TECTAVIRIO_LARGEST_D))
+#define TECTAVIRIO_LONGEST_OUTPUT (TECTAVIRIO_MOST_TASKS * TECTAVIRIO_MOST_VERTICES * TECTAVIRIO_LONGEST_VERTEX + TECTAVIRIO_LINE(5))
+
 #ifdef __cplusplus
 extern "C" {
 #endif
@@ -50,8 +70,6 @@ uint8_t tectavirio_judge(const uint8_t *text, size_t text_bytes, uint8_t task, u
  * refused. */
 uint64_t tectavirio_judge_table(const uint8_t *text, size_t text_bytes, uint32_t budget, uint32_t *work, size_t work_cells);
 
-/* Room for any output of the desk program. */
-enum { TECTAVIRIO_LONGEST_OUTPUT = 275147 };
 
 /* Writes the desk program's output for an input, its frames as lines of hexadecimal, from the front of `out`, and gives its length in bytes. All else in
  * `out` is unchanged. An `out` shorter than TECTAVIRIO_LONGEST_OUTPUT is left as it is, and the length is 0. */

@@ -9,6 +9,7 @@ int ferror(FILE *);
 int fflush(FILE *);
 size_t fread(void *, size_t, size_t, FILE *);
 size_t fwrite(const void *, size_t, size_t, FILE *);
+int fprintf(FILE *, const char *, ...);
 int fputs(const char *, FILE *);
 int printf(const char *, ...);
 int puts(const char *);

@@ -1,15 +1,18 @@
-/* The judging calls from C, on the proved judge's cases: two lines for each, one vertex and the whole table, with what each call left in its areas.
- * Before a call each cell holds its own mark, a number that no judge writes. */
+/* The calls from C, on the cases of the proved program of this name: the text check (c), one vertex (v) and a whole table (t) on marked areas, and the
+ * desk's output (d). What is written for a case is what that program writes for it.
+ *
+ * Before a judging call each cell holds its own mark, a number that no judge writes; its line has what the call left in its areas. */
 #include "sequence.h"
 #include "tectavirio.h"
 
-/* The cells that are lent at most, and so many more behind them that no call may touch. */
-enum { MOST_WORK = 180000, MOST_WITNESS = 1500, BEHIND = 64 };
+/* As many cells are lent at most, a hundred more than any vertex needs, and so many are behind them that no call may touch. */
+enum { MOST_WORK = TECTAVIRIO_MOST_WORK + 100, MOST_WITNESS = TECTAVIRIO_MOST_WITNESS + 100, BEHIND = 64 };
 
 static const uint32_t WORK_MARK = 0xa5a50000;
 static const uint16_t WITNESS_MARK = 0x5a00;
 
 struct one_case {
+    uint8_t mode;
     const uint8_t *text;
     size_t length;
     uint8_t task, vertex;
@@ -60,6 +63,19 @@ static void put_witness(size_t cells) {
     }
 }
 
+/* A line: the refusal's frame, or 00 for a readable text. */
+static void check_text(const struct one_case *c) {
+    uint32_t checked = text_check(c->text, c->length);
+    if (checked == 0) {
+        puts("00");
+        return;
+    }
+    put(0x1e, 1);
+    put(checked / 65536, 1);
+    put(checked % 65536, 2);
+    puts("");
+}
+
 static void judge_vertex(const struct one_case *c) {
     uint32_t value, place;
     mark_areas(c);
@@ -89,11 +105,35 @@ static void judge_whole(const struct one_case *c) {
     puts("");
 }
 
+/* The output, preceded by its length in 4 bytes, high byte first. No area, and one that is a byte too short, are left alone. */
+static void write_output(const struct one_case *c) {
+    static uint8_t out[TECTAVIRIO_LONGEST_OUTPUT];
+    if (tectavirio_desk_output(c->text, c->length, NULL, 0) + tectavirio_desk_output(c->text, c->length, out, sizeof out - 1) != 0) {
+        puts("an output where there is no room");
+    }
+    size_t written = tectavirio_desk_output(c->text, c->length, out, sizeof out);
+    for (int shift = 24; shift >= 0; shift -= 8) {
+        putchar((int)(written >> shift & 0xff));
+    }
+    fwrite(out, 1, written, stdout);
+}
+
+static void answer(const struct one_case *c) {
+    switch (c->mode) {
+    case 'c': check_text(c); break;
+    case 'v': judge_vertex(c); break;
+    case 't': judge_whole(c); break;
+    case 'd': write_output(c); break;
+    default: printf("no such mode: %02x\n", c->mode);
+    }
+}
+
 int main(void) {
     static struct sequence s;
     read_sequence(&s);
     while (s.at < s.count) {
         struct one_case c;
+        c.mode = (uint8_t)next_number(&s, 1);
         c.length = next_number(&s, 4);
         c.task = (uint8_t)next_number(&s, 1);
         c.vertex = (uint8_t)next_number(&s, 1);
@@ -101,8 +141,7 @@ int main(void) {
         c.work_cells = at_most(next_number(&s, 4), MOST_WORK);
         c.witness_cells = at_most(next_number(&s, 4), MOST_WITNESS);
         c.text = next_text(&s, c.length);
-        judge_vertex(&c);
-        judge_whole(&c);
+        answer(&c);
     }
     return fflush(stdout) != 0;
 }

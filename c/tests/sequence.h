@@ -1,4 +1,4 @@
-/* A sequence of texts or cases on standard input, and lines of hexadecimal on standard output, as the proved programs' inputs and outputs have them. */
+/* A sequence of cases on standard input, and lines of hexadecimal on standard output, as the proved programs' inputs and outputs have them. */
 #ifndef SEQUENCE_H
 #define SEQUENCE_H
 

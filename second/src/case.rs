@@ -1,20 +1,40 @@
-//! One judging call with all that is lent to it, and what it answers and leaves, as a line.
+//! What is asked of a text, with all that is lent for it, and what is answered.
 
-use crate::desk::{counts, write_bytes};
+use crate::bounds::BUDGET;
+use crate::desk::{self, counts, write_bytes};
 use crate::judge::judge;
+use crate::list::list;
 use crate::table::{TaskNo, VertexNo};
+use crate::words::words;
 
-/// The bytes of a case before its text: the text's length (4), task (1), vertex (1), budget (4), work cells (4) and witness cells (4).
-pub const HEADER_BYTES: usize = 18;
+/// The bytes of a case before its text: mode (1), the text's length (4), task (1), vertex (1), budget (4), work cells (4) and witness cells (4).
+pub const HEADER_BYTES: usize = 19;
+
+/// The text check.
+pub const CHECK: u8 = b'c';
+/// The paths of every task.
+pub const LIST: u8 = b'l';
+/// The desk program's output, preceded by its length in 4 bytes.
+pub const DESK: u8 = b'd';
+/// One vertex, on marked areas.
+pub const VERTEX: u8 = b'v';
+/// The whole table, on a marked area.
+pub const TABLE: u8 = b't';
+/// The whole table, with the desk's budget, on an area that isn't looked at.
+pub const UNMARKED: u8 = b'u';
+/// The words for people, and an empty line.
+pub const WORDS: u8 = b'w';
 
 /// The first work cell's mark; the next ones count on. No load is as large.
 const WORK_MARK: u32 = 0xa5a5_0000;
 /// The first witness cell's mark; the next ones count on. No length or vertex number is as large.
 const WITNESS_MARK: u16 = 0x5a00;
 
-/// A judging call.
+/// A text, and what is asked of it.
 #[derive(Clone, Debug, PartialEq, Eq)]
 pub struct Case {
+    /// What is asked.
+    pub mode: u8,
     /// The task's number.
     pub task: u8,
     /// The vertex's number.
@@ -38,25 +58,55 @@ impl Case {
                 .fold(0, |n, &b| n << 8 | u32::from(b))
         };
         Case {
-            task: header[4],
-            vertex: header[5],
-            budget: number(6),
-            work: number(10),
-            witness: number(14),
+            mode: header[0],
+            task: header[5],
+            vertex: header[6],
+            budget: number(7),
+            work: number(11),
+            witness: number(15),
             text: Vec::new(),
+        }
+    }
+
+    /// What is asked of a text where no number matters.
+    pub fn plain(mode: u8, text: Vec<u8>) -> Case {
+        Case {
+            mode,
+            task: 0,
+            vertex: 0,
+            budget: 0,
+            work: 0,
+            witness: 0,
+            text,
         }
     }
 
     /// The case's header and text.
     pub fn bytes(&self) -> Vec<u8> {
         // A text is far shorter than 4 bytes can count.
-        let mut bytes = (self.text.len() as u32).to_be_bytes().to_vec();
+        let mut bytes = vec![self.mode];
+        bytes.extend((self.text.len() as u32).to_be_bytes());
         bytes.extend([self.task, self.vertex]);
         for number in [self.budget, self.work, self.witness] {
             bytes.extend(number.to_be_bytes());
         }
         bytes.extend(&self.text);
         bytes
+    }
+
+    /// The answer, by the mode. The work area, of enough cells for any vertex, is for a whole table that is judged unmarked.
+    pub fn answer(&self, work: &mut [u32]) -> Vec<u8> {
+        let answer = match self.mode {
+            CHECK => desk::check(&self.text),
+            LIST => list(&self.text),
+            DESK => return with_length(desk::output(&self.text).as_bytes()),
+            VERTEX => self.judged(),
+            TABLE => self.tabled(),
+            UNMARKED => counts(&self.text, BUDGET, work) + "\n",
+            WORDS => words(&self.text) + "\n",
+            mode => format!("no such mode: {mode:02x}\n"),
+        };
+        answer.into_bytes()
     }
 
     /// Makes the call on marked areas: a line with the verdict and what both areas hold after it.
@@ -96,6 +146,12 @@ impl Case {
     fn marked_work(&self) -> Vec<u32> {
         (WORK_MARK..).take(self.work as usize).collect()
     }
+}
+
+/// Bytes preceded by their number in 4 bytes.
+fn with_length(bytes: &[u8]) -> Vec<u8> {
+    // An output is far shorter than 4 bytes can count.
+    [&(bytes.len() as u32).to_be_bytes(), bytes].concat()
 }
 
 /// Writes the zeros at the work area's front (4 bytes), and 1 if all cells behind them hold their marks.

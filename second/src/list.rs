@@ -4,8 +4,10 @@ use crate::bounds::PATHS;
 use crate::paths::{first_paths, Path};
 use crate::table::{Task, Ticks};
 use crate::text;
-use crate::walk::{fill, stretch_cells};
+use crate::walk::first_part;
 
+/// How many paths are counted, at most.
+const COUNTED: usize = 4 * PATHS + 1;
 /// How many paths are written, at most.
 const WRITTEN: usize = 8;
 
@@ -19,9 +21,9 @@ pub fn list(text: &[u8]) -> String {
     table.tasks.iter().map(|task| list_task(task, d)).collect()
 }
 
-/// The number of paths, one past the most allowed if there are more; the first paths; and the loads' sum, unless there are more.
+/// The number of paths, as far as they are counted; the first paths; and the loads' sum, unless there are more than allowed.
 fn list_task(task: &Task, d: Ticks) -> String {
-    let paths = first_paths(task, d, PATHS + 1);
+    let paths = first_paths(task, d, COUNTED);
     let mut lines = line([paths.len()]);
     for path in paths.iter().take(WRITTEN) {
         lines += &line(path.steps.iter().map(|step| step.vertex.0));
@@ -32,13 +34,33 @@ fn list_task(task: &Task, d: Ticks) -> String {
     lines
 }
 
-/// The sum of the load at t of each range of the paths, times t, for t from 1 to d.
+/// The sum of the cells of a task's stretch, each times its place there, from 1.
 fn sum_of_loads(paths: &[Path], d: Ticks) -> u64 {
-    let mut rows = vec![0; stretch_cells(paths.len(), d)];
-    fill(&mut rows, paths, d);
-    let rows = rows.chunks(d.0 as usize);
-    let cells = rows.flat_map(|row| row.iter().zip(1..));
-    cells.map(|(&load, t)| u64::from(load) * t).sum()
+    let cells = rows(paths, d).into_iter().zip(1..);
+    cells.map(|(load, place)| u64::from(load) * place).sum()
+}
+
+/// The loads at 1 to d of a range and of its parts: first the first part's rows, then the range's own, then the rest's.
+fn rows(paths: &[Path], d: Ticks) -> Vec<u32> {
+    let own = largest(paths, d);
+    if paths.len() == 1 {
+        return own;
+    }
+    let (first, rest) = paths.split_at(first_part(paths.len()));
+    [rows(first, d), own, rows(rest, d)].concat()
+}
+
+/// The largest load of the paths at each tick from 1 to d.
+fn largest(paths: &[Path], d: Ticks) -> Vec<u32> {
+    let mut largest = vec![0; d.0 as usize];
+    let mut loads = largest.clone();
+    for path in paths {
+        path.write_loads(&mut loads);
+        for (most, &load) in largest.iter_mut().zip(&loads) {
+            *most = load.max(*most);
+        }
+    }
+    largest
 }
 
 /// Numbers, with a space between each two, as a line.

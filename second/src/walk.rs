@@ -40,7 +40,7 @@ pub fn walk(e: Ticks, d: Ticks, higher: &[Vec<Path>], budget: u32, work: &mut [u
 }
 
 /// Fills a stretch for a range: first the range's own row, then the stretches of its two parts.
-pub fn fill(stretch: &mut [u32], paths: &[Path], d: Ticks) {
+fn fill(stretch: &mut [u32], paths: &[Path], d: Ticks) {
     let (row, parts) = stretch.split_at_mut(d.0 as usize);
     if let [path] = paths {
         path.write_loads(row);
@@ -56,7 +56,7 @@ pub fn fill(stretch: &mut [u32], paths: &[Path], d: Ticks) {
 }
 
 /// The length of the first part of a range of n paths: n/2, rounded up.
-fn first_part(n: usize) -> usize {
+pub fn first_part(n: usize) -> usize {
     n.div_ceil(2)
 }
 

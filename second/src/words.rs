@@ -20,30 +20,44 @@ pub fn words(input: &[u8]) -> String {
     }
 }
 
-/// The words for a refused text or input.
+/// The words for a refused text or input; where a line is refused, it is shown.
 fn refusal_words(input: &[u8], refusal: &Refusal) -> String {
-    let number = refusal.number();
-    let line = refusal.place;
-    let rule = match refusal.row {
-        Row::Line => {
-            "a line must be pairs of the digits 0-9a-f, at least one pair, and end in a line feed"
+    let mut words = refused(refusal) + "\n";
+    if refusal.row != Row::LongInput {
+        words += &format!("    {}\n", shown_line(input, refusal.place));
+    }
+    words + UNREAD
+}
+
+/// A refusal's number, and the row of the refusal sheet in words, with what it returns.
+fn refused(refusal: &Refusal) -> String {
+    let (number, place) = (refusal.number(), refusal.place);
+    let at_line = |rule| format!(" at line {place}: {rule}");
+    let row = match refusal.row {
+        Row::Line => at_line(
+            "a line must be pairs of the digits 0-9a-f, at least one pair, and end in a line feed",
+        ),
+        Row::Frame => {
+            at_line("this kind of frame isn't allowed here, or its length is wrong for its kind")
         }
-        Row::Frame => "this kind of frame isn't allowed here, or its length is wrong for its kind",
-        Row::Number => {
-            "a number is outside its bounds, or an edge names a vertex that the task hasn't"
+        Row::Number => at_line(
+            "a number is outside its bounds, or an edge names a vertex that the task hasn't",
+        ),
+        Row::Deadline => {
+            at_line("the deadline of the edge's starting vertex exceeds the separation")
         }
-        Row::Deadline => "the deadline of the edge's starting vertex exceeds the separation",
-        Row::EdgeOrder => "the edge doesn't come after the one before it in its task",
-        Row::NoEnd => "the text ends and no end frame was read",
-        Row::AfterEnd => "there are bytes after the end frame",
-        // Of the other rows, only 12 refuses before a vertex is judged.
-        _ => {
-            let reason = format!("the input is longer than {INPUT_BYTES} bytes");
-            return format!("REFUSED ({number}): {reason}\n{UNREAD}");
+        Row::EdgeOrder => at_line("the edge doesn't come after the one before it in its task"),
+        Row::NoEnd => at_line("the text ends and no end frame was read"),
+        Row::AfterEnd => at_line("there are bytes after the end frame"),
+        Row::NoVertex => ": there is no such task or vertex".into(),
+        Row::ManyPaths => format!(": task {place} has more than {PATHS} complete paths"),
+        Row::WorkArea => format!(": {place} work cells are needed and there are {WORK_CELLS}"),
+        Row::WitnessArea => {
+            format!(": {place} witness cells are needed and there are {WITNESS_CELLS}")
         }
+        Row::LongInput => format!(": the input is longer than {INPUT_BYTES} bytes"),
     };
-    let shown = shown_line(input, line);
-    format!("REFUSED ({number}) at line {line}: {rule}\n    {shown}\n{UNREAD}")
+    format!("REFUSED ({number}){row}")
 }
 
 /// A line of a text, from 1, as far as it is shown.
@@ -109,20 +123,7 @@ fn verdict_words(verdict: &Verdict, task: TaskNo, vertex: &Vertex) -> String {
             let groups = number_of(budget, "group");
             format!("UNFINISHED: the search was cut short after {groups}; this is neither a yes nor a no\n")
         }
-        Verdict::Refused(refusal) => {
-            let (number, because) = (refusal.number(), refusal_reason(&refusal));
-            format!("REFUSED ({number}){because}, so this was not judged\n")
-        }
-    }
-}
-
-/// Why a vertex was refused.
-fn refusal_reason(refusal: &Refusal) -> String {
-    let place = refusal.place;
-    match refusal.row {
-        Row::ManyPaths => format!(": task {place} has more than {PATHS} complete paths"),
-        Row::WorkArea => format!(": {place} work cells are needed and there are {WORK_CELLS}"),
-        _ => String::new(),
+        Verdict::Refused(refusal) => refused(&refusal) + ", so this was not judged\n",
     }
 }
 

@@ -2,8 +2,9 @@
 
 mod common;
 
-use common::{r1, r5, run, text};
-use second::case::{Case, HEADER_BYTES};
+use common::{answered_lines, cases_of, r1, r5, run, text};
+use second::case::{Case, HEADER_BYTES, TABLE, VERTEX};
+use second::sequence::MOST_BYTES;
 use std::process::Command;
 
 /// The sequence of cases.
@@ -12,25 +13,11 @@ fn sequence() -> Vec<u8> {
     generator.unwrap().stdout
 }
 
-/// The cases of a sequence.
-fn cases(sequence: &[u8]) -> Vec<Case> {
-    let mut cases = Vec::new();
-    let mut rest = sequence;
-    while let Some((header, behind)) = rest.split_first_chunk::<HEADER_BYTES>() {
-        let length = u32::from_be_bytes([header[0], header[1], header[2], header[3]]);
-        let (text, next) = behind.split_at(length as usize);
-        let mut case = Case::headed(*header);
-        case.text = text.to_vec();
-        cases.push(case);
-        rest = next;
-    }
-    assert!(rest.is_empty());
+/// The vertices to judge.
+fn vertices() -> Vec<Case> {
+    let mut cases = cases_of(&sequence());
+    cases.retain(|case| case.mode == VERTEX);
     cases
-}
-
-/// The two lines of a case.
-fn lines(case: &Case) -> String {
-    case.judged() + &case.tabled()
 }
 
 /// A verdict's line: its three numbers, the zeroed work cells, and the witness cells; all else is unchanged.
@@ -105,9 +92,8 @@ fn bench() -> Vec<String> {
 
 #[test]
 fn the_bench_by_the_documents_numbers() {
-    let found = run(&["judge"], &sequence());
-    let found = String::from_utf8(found.stdout).unwrap();
-    let lines: Vec<_> = found.split_inclusive('\n').step_by(2).collect();
+    let found = answered_lines(&sequence());
+    let lines: Vec<_> = found.split_inclusive('\n').collect();
     let bench = bench();
     assert_eq!(lines[..bench.len()], bench);
 }
@@ -120,9 +106,7 @@ fn counted(counts: [u8; 4], zeroed: u32) -> String {
 
 #[test]
 fn the_whole_table_by_the_documents_numbers() {
-    let found = run(&["judge"], &sequence());
-    let found = String::from_utf8(found.stdout).unwrap();
-    let lines: Vec<_> = found.split_inclusive('\n').skip(1).step_by(2).collect();
+    let lines: Vec<_> = vertices().iter().map(Case::tabled).collect();
     // R1, R2: the third task needs most.
     assert_eq!(lines[2], counted([2, 1, 0, 0], 12));
     assert_eq!(lines[3], counted([3, 0, 0, 0], 12));
@@ -145,21 +129,37 @@ fn the_whole_table_by_the_documents_numbers() {
 }
 
 #[test]
-fn two_lines_for_each_case() {
+fn a_line_for_each_case() {
     let sequence = sequence();
-    let cases = cases(&sequence);
+    let cases = cases_of(&sequence);
     let bytes: Vec<u8> = cases.iter().flat_map(Case::bytes).collect();
     assert_eq!(bytes, sequence);
-    let lines: String = cases.iter().map(lines).collect();
-    let found = run(&["judge"], &sequence);
-    assert_eq!(found.status.code(), Some(0));
-    assert!(found.stdout == lines.as_bytes());
-    assert!(found.stderr.is_empty());
+    let line = |case: &Case| match case.mode {
+        VERTEX => case.judged(),
+        TABLE => case.tabled(),
+        mode => format!("no such mode: {mode:02x}\n"),
+    };
+    let lines: String = cases.iter().map(line).collect();
+    assert!(answered_lines(&sequence) == lines);
+    assert!(lines.ends_with("no such mode: 7a\n"));
+}
+
+#[test]
+fn the_whole_table_of_each_vertex() {
+    let cases = cases_of(&sequence());
+    for vertex in vertices() {
+        let table = Case {
+            budget: vertex.budget,
+            work: vertex.work,
+            ..Case::plain(TABLE, vertex.text)
+        };
+        assert_eq!(cases.iter().filter(|&case| *case == table).count(), 1);
+    }
 }
 
 #[test]
 fn every_verdict_and_every_refusal_is_there() {
-    let lines: Vec<_> = cases(&sequence()).iter().map(Case::judged).collect();
+    let lines: Vec<_> = vertices().iter().map(Case::judged).collect();
     for kind in ["00", "01", "02"] {
         let of_kind = lines.iter().filter(|line| line.starts_with(kind));
         assert!(of_kind.count() > 50);
@@ -172,15 +172,16 @@ fn every_verdict_and_every_refusal_is_there() {
 
 #[test]
 fn areas_are_within_what_the_checked_program_lends() {
-    for case in cases(&sequence()) {
+    for case in cases_of(&sequence()) {
         assert!(case.work <= 8_192 && case.witness <= 1_500);
     }
-    assert!(sequence().len() <= 262_144);
+    assert!(sequence().len() <= MOST_BYTES);
 }
 
 #[test]
 fn a_header_high_byte_first() {
     let case = Case {
+        mode: b'v',
         task: 1,
         vertex: 2,
         budget: 0x0304_0506,
@@ -191,7 +192,7 @@ fn a_header_high_byte_first() {
     let bytes = case.bytes();
     let header = *bytes.first_chunk().unwrap();
     // The text's lines have 7, 11, 11, 7, 11 and 3 bytes.
-    let numbers = [0, 0, 0, 50, 1, 2, 3, 4, 5, 6, 0, 0, 7, 8, 0, 0, 9, 10];
+    let numbers = [118, 0, 0, 0, 50, 1, 2, 3, 4, 5, 6, 0, 0, 7, 8, 0, 0, 9, 10];
     assert_eq!(header, numbers);
     assert_eq!(bytes[HEADER_BYTES..], case.text);
     let text = Vec::new();
@@ -201,6 +202,7 @@ fn a_header_high_byte_first() {
 #[test]
 fn a_broken_sequence_of_cases() {
     let whole = Case {
+        mode: VERTEX,
         task: 2,
         vertex: 0,
         budget: 1,
@@ -208,12 +210,12 @@ fn a_broken_sequence_of_cases() {
         witness: 14,
         text: text(&r1(2)).into_bytes(),
     };
-    let (lines, whole) = (lines(&whole), whole.bytes());
-    assert_eq!(run(&["judge"], &whole).stdout, lines.as_bytes());
+    let (line, whole) = (whole.judged(), whole.bytes());
+    assert_eq!(answered_lines(&whole), line);
     for end in 1..whole.len() {
         let broken = &whole[..end];
         for sequence in [broken.to_vec(), [&whole, broken].concat()] {
-            let found = run(&["judge"], &sequence);
+            let found = run(&["cases"], &sequence);
             assert_eq!(found.status.code(), Some(1));
             assert!(!found.stderr.is_empty());
         }

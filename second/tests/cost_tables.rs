@@ -2,8 +2,10 @@
 
 mod common;
 
-use common::{judged, run, texts_of};
+use common::{answered_lines, judged, texts_of};
 use second::bounds::{BUDGET, MOST_WORK_CELLS, WITNESS_CELLS};
+use second::case::UNMARKED;
+use second::sequence::MOST_BYTES;
 use second::table::{Table, Task, Vertex};
 use second::text;
 use std::process::{Command, Output};
@@ -19,8 +21,8 @@ fn family(name: &str) -> Vec<(Vec<u8>, Table)> {
     let written = generated(&[name]);
     assert!(written.status.success() && written.stderr.is_empty());
     // Twice the sequence fits in the program that is counted.
-    assert!(2 * written.stdout.len() <= 262_144);
-    let texts = texts_of(&written.stdout).into_iter();
+    assert!(2 * written.stdout.len() <= MOST_BYTES);
+    let texts = texts_of(UNMARKED, &written.stdout).into_iter();
     texts
         .map(|text| (text.clone(), text::read(&text).unwrap()))
         .collect()
@@ -98,10 +100,9 @@ fn heavy_tables() {
 #[test]
 fn some_of_each_begin_with_the_bench() {
     let sequence = generated(&["few"]).stdout;
-    let found = run(&["tables"], &sequence);
-    let lines = String::from_utf8(found.stdout).unwrap();
+    let lines = answered_lines(&sequence);
     let lines: Vec<_> = lines.lines().collect();
-    assert_eq!(lines.len(), texts_of(&sequence).len());
+    assert_eq!(lines.len(), texts_of(UNMARKED, &sequence).len());
     // R1 to R7, R10 and R11.
     let bench = [
         "1f02010000",
@@ -131,7 +132,10 @@ fn another_seed_gives_other_tables() {
         ["small", "paper"].map(|family| [generated(&[family]), generated(&[family, "1"])]);
     for [own, first] in families {
         assert!(first.status.success() && own.stdout != first.stdout);
-        assert_eq!(texts_of(&own.stdout).len(), texts_of(&first.stdout).len());
+        assert_eq!(
+            texts_of(UNMARKED, &own.stdout).len(),
+            texts_of(UNMARKED, &first.stdout).len()
+        );
     }
     assert_eq!(
         generated(&["paper", "1"]).stdout,

@@ -2,7 +2,9 @@
 
 mod common;
 
-use common::{r1, run, text, texts_of};
+use common::{answered, outputs_of, r1, text, texts_of};
+use second::case::DESK;
+use second::sequence::MOST_BYTES;
 use std::process::Command;
 
 /// What the generator writes with these arguments.
@@ -13,12 +15,15 @@ fn sequence(arguments: &[&str]) -> Vec<u8> {
     written.stdout
 }
 
+/// The texts of a sequence.
+fn texts(sequence: &[u8]) -> Vec<Vec<u8>> {
+    texts_of(DESK, sequence)
+}
+
 /// The lines of the desk's output for each text.
 fn answers(sequence: &[u8]) -> Vec<Vec<String>> {
-    let found = run(&["many"], sequence);
-    assert_eq!(found.status.code(), Some(0));
-    let outputs = texts_of(&found.stdout);
-    assert_eq!(outputs.len(), texts_of(sequence).len());
+    let outputs = outputs_of(&answered(sequence));
+    assert_eq!(outputs.len(), texts(sequence).len());
     let lines = |output| {
         let output = String::from_utf8(output).unwrap();
         output.lines().map(String::from).collect()
@@ -74,7 +79,7 @@ fn the_bench_comes_first() {
     let answers = answers(&sequence(&[]));
     let frames = |number: usize| answers[number].concat();
     let last = |number: usize| answers[number].iter().rev().nth(1).unwrap().as_str();
-    assert_eq!(texts_of(&sequence(&[]))[0], text(&r1(2)).as_bytes());
+    assert_eq!(texts(&sequence(&[]))[0], text(&r1(2)).as_bytes());
     assert!(frames(0).ends_with("10020001000000011100020000110101001f02010000"));
     // R2, R3 at horizon 5 and 6, R4, R5, R6, R7.
     assert_eq!(last(1), "1002000000000001");
@@ -98,21 +103,21 @@ fn the_bench_comes_first() {
 #[test]
 fn they_are_many_and_fit_in_the_checked_program() {
     let sequence = sequence(&[]);
-    assert!(texts_of(&sequence).len() >= 600);
-    assert!(sequence.len() <= 262_144);
+    assert!(texts(&sequence).len() >= 600);
+    assert!(sequence.len() <= MOST_BYTES);
 }
 
 #[test]
 fn another_seed_gives_other_random_texts() {
     let (own, first, again) = (sequence(&[]), sequence(&["1"]), sequence(&["1"]));
     assert!(first == again && first != own);
-    assert_eq!(texts_of(&first).len(), texts_of(&own).len());
-    let (own, first) = (texts_of(&own), texts_of(&first));
+    assert_eq!(texts(&first).len(), texts(&own).len());
+    let (own, first) = (texts(&own), texts(&first));
     let alike = own.iter().zip(&first).take_while(|(a, b)| a == b).count();
     assert!(alike > 300 && alike < own.len());
-    let random = texts_of(&sequence(&["1", "20"]));
+    let random = texts(&sequence(&["1", "20"]));
     assert_eq!(random.len(), 20);
-    assert_ne!(random, texts_of(&sequence(&["2", "20"])));
+    assert_ne!(random, texts(&sequence(&["2", "20"])));
 }
 
 #[test]

@@ -2,7 +2,8 @@
 
 mod common;
 
-use common::{r1, run, self_edge, task, text, with_length};
+use common::{answered, answered_lines, r1, run, self_edge, sequence_of, task, text, with_length};
+use second::case::{CHECK, DESK, LIST, UNMARKED};
 
 /// R1's output.
 const R1_OUTPUT: &str = "1000000000000001\n1001000000000001\n1002000100000001\n\
@@ -28,7 +29,7 @@ fn one_input_around_the_longest() {
 }
 
 #[test]
-fn many_texts() {
+fn the_desks_outputs() {
     let r1 = text(&r1(2));
     let texts = [r1.as_bytes(), b"", b"00\n", &[0; 9_000], r1.as_bytes()];
     let outputs = [
@@ -38,22 +39,16 @@ fn many_texts() {
         "1e0c0000\n",
         R1_OUTPUT,
     ];
-    let found = run(&["many"], &texts.map(with_length).concat());
     let expected = outputs.map(|output| with_length(output.as_bytes()));
-    assert_eq!(found.stdout, expected.concat());
-    assert_eq!(found.status.code(), Some(0));
-    assert!(found.stderr.is_empty());
+    assert_eq!(answered(&sequence_of(DESK, &texts)), expected.concat());
 }
 
 #[test]
 fn checked_texts() {
     let r1 = text(&r1(2));
     let texts = [r1.as_bytes(), b"", b"00\n", &[0; 9_000], b"010101\n02"];
-    let found = run(&["check"], &texts.map(with_length).concat());
     let expected = "00\n1e060001\n1e020001\n1e010001\n1e010002\n";
-    assert_eq!(found.stdout, expected.as_bytes());
-    assert_eq!(found.status.code(), Some(0));
-    assert!(found.stderr.is_empty());
+    assert_eq!(answered_lines(&sequence_of(CHECK, &texts)), expected);
 }
 
 #[test]
@@ -62,18 +57,39 @@ fn listed_texts() {
     let r7 = task(&[(3, 10), (1, 2), (4, 10)], &[(1, 2, 2)]);
     let r7 = text(&[r7, task(&[(1, 5)], &[])]);
     let edges: Vec<_> = (0..16).map(|n| (n / 4, n % 4, 10)).collect();
-    let r10 = text(&[task(&[(1, 10); 4], &edges), task(&[(1, 31)], &[])]);
-    let texts = [r3.as_bytes(), b"00\n", r7.as_bytes(), r10.as_bytes()];
-    let found = run(&["list"], &texts.map(with_length).concat());
+    let r10 = |d| text(&[task(&[(1, 10); 4], &edges), task(&[(1, d)], &[])]);
+    let (r10, more) = (r10(31), r10(41));
+    let texts = [
+        r3.as_bytes(),
+        b"00\n",
+        r7.as_bytes(),
+        r10.as_bytes(),
+        more.as_bytes(),
+    ];
     // R3's load is 2 up to tick 5 and then 4; the other task's is 1 throughout.
     let mut expected = "1\n0 0\n54\n1\n0\n21\n-\n".to_string();
-    // R7's rows, each summed: 45, 69, 63, 72 and 60.
-    expected += "3\n0\n1 2\n2\n309\n1\n0\n15\n";
-    expected += "65\n0 0 0 0\n0 0 0 1\n0 0 0 2\n0 0 0 3\n";
-    expected += "0 0 1 0\n0 0 1 1\n0 0 1 2\n0 0 1 3\n1\n0\n496\n";
-    assert_eq!(String::from_utf8(found.stdout).unwrap(), expected);
-    assert_eq!(found.status.code(), Some(0));
-    assert!(found.stderr.is_empty());
+    // R7's rows, from tick 1: (0) 3 3 3 3 3, (0) and (1,2) 3 3 5 5 5, (1,2) 1 1 5 5 5, all three 4 4 5 5 5, (2) 4 4 4 4 4.
+    expected += "3\n0\n1 2\n2\n1329\n1\n0\n15\n";
+    let first = |vertices: [&str; 8]| vertices.map(|line| format!("{line}\n")).concat();
+    expected += "256\n";
+    expected += &first([
+        "0 0 0 0", "0 0 0 1", "0 0 0 2", "0 0 0 3", "0 0 1 0", "0 0 1 1", "0 0 1 2", "0 0 1 3",
+    ]);
+    expected += "1\n0\n496\n";
+    // 1,024 paths: more than are counted.
+    expected += "257\n";
+    expected += &first([
+        "0 0 0 0 0",
+        "0 0 0 0 1",
+        "0 0 0 0 2",
+        "0 0 0 0 3",
+        "0 0 0 1 0",
+        "0 0 0 1 1",
+        "0 0 0 1 2",
+        "0 0 0 1 3",
+    ]);
+    expected += "1\n0\n861\n";
+    assert_eq!(answered_lines(&sequence_of(LIST, &texts)), expected);
 }
 
 #[test]
@@ -85,31 +101,32 @@ fn tabled_texts() {
         let above = task(&[(1, 10); 4], &edges(p));
         text(&[above, task(&[(1, d)], &[])])
     });
-    let texts = [&r1, "", "00\n", &many, &large].map(|text| with_length(text.as_bytes()));
-    let found = run(&["tables"], &texts.concat());
+    let texts = [&r1, "", "00\n", &many, &large].map(str::as_bytes);
     let expected = "1f02010000\n1e060001\n1e020001\n1f04000001\n1f05000000\n";
-    assert_eq!(String::from_utf8(found.stdout).unwrap(), expected);
-    assert_eq!(found.status.code(), Some(0));
-    assert!(found.stderr.is_empty());
+    assert_eq!(answered_lines(&sequence_of(UNMARKED, &texts)), expected);
 }
 
 #[test]
-fn no_texts() {
-    for mode in ["many", "words", "check", "list", "tables", "judge"] {
-        let found = run(&[mode], b"");
-        assert_eq!(found.status.code(), Some(0));
-        assert!(found.stdout.is_empty() && found.stderr.is_empty());
+fn a_mode_that_there_is_not() {
+    for mode in (0..=255).filter(|mode| !b"cldvtuw".contains(mode)) {
+        let expected = format!("no such mode: {mode:02x}\n");
+        assert_eq!(answered_lines(&sequence_of(mode, &[b"00\n"])), expected);
     }
 }
 
 #[test]
+fn no_cases() {
+    assert!(answered(b"").is_empty());
+}
+
+#[test]
 fn a_broken_sequence() {
-    let whole = with_length(b"00\n");
-    let beginnings = (1..whole.len()).map(|end| whole[..end].to_vec());
-    for broken in beginnings.chain([vec![0xff; 4], vec![0xff; 100]]) {
-        for sequence in [broken.clone(), [whole.clone(), broken].concat()] {
-            for mode in ["many", "words", "check", "list", "tables"] {
-                let found = run(&[mode], &sequence);
+    for mode in *b"cldvtuw" {
+        let whole = sequence_of(mode, &[b"00\n"]);
+        let beginnings = (1..whole.len()).map(|end| whole[..end].to_vec());
+        for broken in beginnings.chain([vec![0xff; 4], vec![0xff; 100]]) {
+            for sequence in [broken.clone(), [whole.clone(), broken].concat()] {
+                let found = run(&["cases"], &sequence);
                 assert_eq!(found.status.code(), Some(1));
                 assert!(!found.stderr.is_empty());
             }
@@ -119,7 +136,13 @@ fn a_broken_sequence() {
 
 #[test]
 fn wrong_arguments() {
-    for arguments in [&["one"][..], &["many", "more"], &["--help"], &[""]] {
+    for arguments in [
+        &["one"][..],
+        &["cases", "more"],
+        &["many"],
+        &["--help"],
+        &[""],
+    ] {
         let found = run(arguments, b"");
         assert_eq!(found.status.code(), Some(2));
         assert!(found.stdout.is_empty());

@@ -3,6 +3,8 @@
 mod common;
 
 use common::*;
+use second::case::WORDS;
+use second::sequence::MOST_BYTES;
 use second::words::words;
 use std::process::Command;
 
@@ -238,11 +240,9 @@ fn the_lines_that_rule_1_shows() {
 fn the_program_writes_an_empty_line_after_each_text() {
     let table = text(&common::r1(1));
     let texts = [table.as_bytes(), b"", table.as_bytes()];
-    let found = run(&["words"], &texts.map(with_length).concat());
+    let found = answered_lines(&sequence_of(WORDS, &texts));
     let expected: String = texts.map(|text| words(text) + "\n").concat();
-    assert_eq!(String::from_utf8(found.stdout).unwrap(), expected);
-    assert_eq!(found.status.code(), Some(0));
-    assert!(found.stderr.is_empty());
+    assert_eq!(found, expected);
 }
 
 #[test]
@@ -250,9 +250,9 @@ fn the_texts_that_the_words_are_checked_with() {
     let table = concat!(env!("CARGO_MANIFEST_DIR"), "/../tables/r1.table");
     let mut generator = Command::new(env!("CARGO_BIN_EXE_texts_for_words"));
     let sequence = generator.arg(table).output().unwrap().stdout;
-    let texts = texts_of(&sequence);
+    let texts = texts_of(WORDS, &sequence);
     assert!((60..=100).contains(&texts.len()));
-    assert!(sequence.len() <= 262_144);
+    assert!(sequence.len() <= MOST_BYTES);
     assert_eq!(texts[0], text(&common::r1(2)).as_bytes());
     let words: Vec<_> = texts.iter().map(|text| words(text)).collect();
     for said in [

@@ -1,145 +1,106 @@
--- Counting the higher tasks' paths: the first with too many, the stretches' starts, the rows in all. Assumes nothing.
-use mathlib.Core.Path.{_≡_, refl, sym, ap, ap₂, subst, _∙_}
-use Prim.Native.Nat.{ℕ, zero, suc, _+_, _-_, _*_, _≤_, _<_, min}
+-- The higher tasks' numbers of paths, counted one after the other. Assumes nothing.
+use mathlib.Core.Path.{_≡_, refl, sym, ap, ap₂, _∙_}
+use Prim.Native.Nat.{ℕ, zero, suc, _+_, _*_, _≤_, _<_}
 use native.Mathlib.Omega.{arith}
-use native.Mathlib.Nat.{eq-or-lt-of-le, mul-le-mul}
+use native.Mathlib.Nat.{mul-le-mul}
 use native.Mathlib.Numerals.{add-one}
-use native.Mathlib.Decide.{ℕ-discrete, decLt}
-use mathlib.Core.Logic.{⊎-elim}
 use mathlib.Core.List.{List, [], _∷_, _++_}
-use lib.ListN.{length, take, getD, set, replicate, length-set, length-map}
-use lib.Seq.{take-suc, getD-set-same, getD-set-other, getD-take, length-take-le, ext-getD}
-use Rattle.meaning.specs.Bounds.{mostPaths, largestD}
-use Rattle.meaning.specs.Table as Meant
-use Rattle.meaning.specs.Table.{noTask, taskAt, higher}
-use Rattle.meaning.specs.Paths.{pathsOf}
-use Rattle.meaning.proofs.Lists.{getD-mapped}
-use Rattle.meaning.proofs.PathsOf.{paths-some}
-use Rattle.table.specs.declared.Task.{Task}
-use Rattle.table.specs.declared.Table.{Table}
-use Rattle.table.specs.Record.{taskOf, tableOf, Held}
-use Rattle.table.specs.Record as Blank
-use Rattle.areas.specs.Above.{pathCounts, rowsIn, Counting, SettledCount}
-use Rattle.table.proofs.Records.{held-count, held-is, held-sound}
+use lib.ListN.{length, take, getD, set}
+use lib.Seq.{take-suc}
+use Rattle.meaning.specs.Bounds.{mostHigher, mostPaths, largestD}
+use Rattle.meaning.specs.Areas.{rowsFor}
+use Rattle.table.specs.Record.{padded}
+use Rattle.table.proofs.Record.{getD-padded, length-padded, padded-more}
+use Rattle.areas.specs.Above.{rowsIn, startsFrom, aboveOf, noneAbove, withPaths, Counted}
 
-rows-snoc : (ns : List ℕ) (n : ℕ) → rowsIn (ns ++ n ∷ []) ≡ rowsIn ns + (2 * n - 1)
+-- ---- rows, and where stretches begin
+
+rows-snoc : (ns : List ℕ) (n : ℕ) → rowsIn (ns ++ n ∷ []) ≡ rowsIn ns + rowsFor n
 unfolding rowsIn
 rows-snoc [] n = omega arith
 rows-snoc (m ∷ ns) n = omega (arith, rows-snoc ns n)
 
-pub rows-more : (ns : List ℕ) (j : ℕ) → j < length ns → rowsIn (take (j + 1) ns) ≡ rowsIn (take j ns) + (2 * getD ns j 0 - 1)
+pub rows-more : (ns : List ℕ) (j : ℕ) → j < length ns → rowsIn (take (j + 1) ns) ≡ rowsIn (take j ns) + rowsFor (getD ns j 0)
 rows-more ns j h = rw (add-one j, take-suc ns j 0 h) (rows-snoc (take j ns) (getD ns j 0))
 
-zero-at : (n k : ℕ) → getD (replicate {A = ℕ} n 0) k 0 ≡ 0
-zero-at zero k = refl
-zero-at (suc n) zero = refl
-zero-at (suc n) (suc k) = zero-at n k
-
-zero-cell : (xs : List ℕ) → xs ≡ replicate 7 0 → (k : ℕ) → getD xs k 0 ≡ 0
-zero-cell xs e k = ap (λ (l : List ℕ). getD l k 0) e ∙ zero-at 7 k
-
-pub counting-none : (h d : ℕ) (ns counts roots : List ℕ) → h ≤ 7 → d ≤ largestD → counts ≡ replicate 7 0 → roots ≡ replicate 7 0 → Counting h d ns counts roots 0 0
+pub rows-take : (j : ℕ) (ns : List ℕ) → rowsIn (take j ns) ≤ rowsIn ns
 unfolding rowsIn
-counting-none h d ns counts roots f s a b =
-    record {
-      seven = f;
-      short = s;
-      low = omega arith;
-      counts7 = ap length a;
-      roots7 = ap length b;
-      few = λ k m. absurd (omega arith);
-      same = λ k m. absurd (omega arith);
-      starts = λ k m. absurd (omega arith);
-      spare = λ k m. (zero-cell counts a k, zero-cell roots b k);
-      all = refl;
-      small = omega arith;
-    }
+rows-take zero ns = omega arith
+rows-take (suc j) [] = omega arith
+rows-take (suc j) (n ∷ ns) = omega (arith, rows-take j ns)
 
--- below j + 1 and not j
-below : (k j : ℕ) → k < j + 1 → (k ≡ j → ⊥) → k < j
-below k j m q = ⊎-elim (λ (x : k ≡ j). absurd (q x)) (λ x. x) (eq-or-lt-of-le (omega arith))
+-- of tasks none of which has too many
+pub rows-few : (ns : List ℕ) → ((j : ℕ) → j < length ns → getD ns j 0 ≤ mostPaths) → rowsIn ns ≤ rowsFor mostPaths * length ns
+unfolding rowsIn
+rows-few [] h = omega arith
+rows-few (n ∷ ns) h = omega (arith, h 0 (omega arith), rows-few ns (λ j l. h (suc j) (omega arith)))
 
--- what a cell is to hold, when it is stored and those before it hold theirs
-stored : (f : ℕ → ℕ) (xs : List ℕ) (j v : ℕ) → j < length xs → v ≡ f j → ((k : ℕ) → k < j → getD xs k 0 ≡ f k) → (k : ℕ) → k < j + 1 → getD (set xs j v) k 0 ≡ f k
-stored f xs j v l e h k m = elim (ℕ-discrete k j) [ yes q ↦ rw (q, getD-set-same xs j v 0 l) e | no q ↦ rw (getD-set-other xs j k v 0 q) (h k (below k j m q)) ]
+length-starts : (d r : ℕ) (ns : List ℕ) → length (startsFrom d r ns) ≡ length ns
+length-starts d r [] = refl
+length-starts d r (n ∷ ns) = ap suc (length-starts d (r + rowsFor n) ns)
 
-later : (k j : ℕ) → j + 1 ≤ k → k ≡ j → ⊥
-later k j m q = absurd (omega arith)
+starts-snoc : (d r : ℕ) (ns : List ℕ) (n : ℕ) → startsFrom d r (ns ++ n ∷ []) ≡ startsFrom d r ns ++ (r + rowsIn ns) * d ∷ []
+unfolding rowsIn
+starts-snoc d r [] n = let e : r ≡ r + 0 = omega arith in ap (λ (k : ℕ). k * d ∷ []) e
+starts-snoc d r (m ∷ ns) n =
+    let e : r + rowsFor m + rowsIn ns ≡ r + (rowsFor m + rowsIn ns) = omega arith in
+    ap (λ (l : List ℕ). r * d ∷ l) (starts-snoc d (r + rowsFor m) ns n ∙ ap (λ (k : ℕ). startsFrom d (r + rowsFor m) ns ++ k * d ∷ []) e)
 
-pub counting-more : {h d : ℕ} {ns counts roots : List ℕ} {rows j : ℕ} (n : ℕ) → Counting h d ns counts roots rows j → h ≤ length ns → j < h → (n ≡ getD ns j 0) × (1 ≤ n) → n ≤ mostPaths
-    → Counting h d ns (set counts j n) (set roots j (rows * d)) (rows + (2 * n - 1)) (j + 1)
-counting-more {h} {d} {ns} {counts} {roots} {rows} {j} n c hn l (e, a) b =
-    let h7 = c .seven in
-    let c7 = c .counts7 in
-    let r7 = c .roots7 in
-    record {
-      seven = h7;
-      short = c .short;
-      low = omega arith;
-      counts7 = length-set counts j n ∙ c7;
-      roots7 = length-set roots j (rows * d) ∙ r7;
-      few = λ k m. elim (ℕ-discrete k j) [ yes q ↦ rw (q, ← e) b | no q ↦ c .few k (below k j m q) ];
-      same = stored (λ (k : ℕ). getD ns k 0) counts j n (omega arith) e (c .same);
-      starts = stored (λ (k : ℕ). rowsIn (take k ns) * d) roots j (rows * d) (omega arith) (ap (λ (r : ℕ). r * d) (c .all)) (c .starts);
-      spare = λ k m. let past = c .spare k (omega arith) in (getD-set-other counts j k n 0 (later k j m) ∙ past .0, getD-set-other roots j k (rows * d) 0 (later k j m) ∙ past .1);
-      all = omega (arith, c .all, rows-more ns j (omega arith));
-      small = omega (arith, c .small);
-    }
+start-at : (d r : ℕ) (ns : List ℕ) (j : ℕ) → j < length ns → getD (startsFrom d r ns) j 0 ≡ (r + rowsIn (take j ns)) * d
+unfolding rowsIn
+start-at d r [] j h = absurd (omega arith)
+start-at d r (n ∷ ns) zero h = let e : r ≡ r + 0 = omega arith in ap (λ (k : ℕ). k * d) e
+start-at d r (n ∷ ns) (suc j) h =
+    let e : r + rowsFor n + rowsIn (take j ns) ≡ r + (rowsFor n + rowsIn (take j ns)) = omega arith in
+    start-at d (r + rowsFor n) ns j (omega arith) ∙ ap (λ (k : ℕ). k * d) e
 
-pub rows-fit : {h d : ℕ} {ns counts roots : List ℕ} {rows j : ℕ} → Counting h d ns counts roots rows j → rows * d ≤ 889 * largestD
-rows-fit {rows = rows} c = let few : rows ≤ 889 = omega (arith, c .small, c .low, c .seven) in mul-le-mul few (c .short)
+-- ---- one task after the other
 
--- ---- of a held table
+pub none-is : (d : ℕ) → noneAbove ≡ aboveOf d []
+unfolding aboveOf
+none-is d = refl
 
-module _ (t : Table) (k : Held t) (h d : ℕ) (l : h < t .n) where
-  abbrev ns : List ℕ
-  ns = pathCounts (higher (tableOf t) h) d
+pub more-is : (d : ℕ) (ns : List ℕ) (n : ℕ) → length ns < mostHigher → withPaths (aboveOf d ns) (length ns) n d ≡ aboveOf d (ns ++ n ∷ [])
+unfolding aboveOf
+more-is d ns n h =
+    let long = length-starts d 0 ns in
+    let front : 0 + rowsIn ns ≡ rowsIn ns = omega arith in
+    let roots : set (padded mostHigher 0 (startsFrom d 0 ns)) (length ns) (rowsIn ns * d) ≡ padded mostHigher 0 (startsFrom d 0 (ns ++ n ∷ [])) = (
+    ap (λ (k : ℕ). set (padded mostHigher 0 (startsFrom d 0 ns)) k (rowsIn ns * d)) (sym long)
+    ∙ padded-more mostHigher 0 (startsFrom d 0 ns) (rowsIn ns * d) (omega arith)
+    ∙ ap (padded mostHigher 0) (ap (λ (k : ℕ). startsFrom d 0 ns ++ k * d ∷ []) (sym front) ∙ sym (starts-snoc d 0 ns n))
+    ) in
+    ap₂ (λ (c o : List ℕ). record { counts = c; roots = o; rows = rowsIn ns + rowsFor n }) (padded-more mostHigher 0 ns n h) roots
+    ∙ ap (λ (k : ℕ). record { counts = padded mostHigher 0 (ns ++ n ∷ []); roots = padded mostHigher 0 (startsFrom d 0 (ns ++ n ∷ [])); rows = k }) (sym (rows-snoc ns n))
 
-  pub counts-length : length ns ≡ h
-  counts-length = length-map (higher (tableOf t) h) (λ (x : Meant.Task). length (pathsOf x d)) ∙ length-take-le h (tableOf t) (omega (arith, held-count t k))
+-- no product of rows with a row's cells is too large
+pub cells-fit : (rows h d : ℕ) → rows ≤ rowsFor mostPaths * h → h < mostHigher → d ≤ largestD → rows * d ≤ rowsFor mostPaths * mostHigher * largestD
+cells-fit rows h d a b c = let few : rows ≤ rowsFor mostPaths * mostHigher = omega arith in mul-le-mul few c
 
-  higher-at : (j : ℕ) → j < h → getD (higher (tableOf t) h) j noTask ≡ taskAt (tableOf t) j
-  higher-at j m = getD-take h (tableOf t) j noTask m
+-- ---- what was counted, of tasks with so many paths each
 
-  -- task j's paths, by its record
-  pub count-at : (z : Task) (j : ℕ) → j < h → length (pathsOf (taskOf (getD (t .tasks) j z)) d) ≡ getD ns j 0
-  count-at z j m =
-      ap (λ (x : Meant.Task). length (pathsOf x d)) (held-is t k z j (omega arith) ∙ sym (higher-at j m))
-      ∙ sym (getD-mapped (λ (x : Meant.Task). length (pathsOf x d)) 0 noTask (higher (tableOf t) h) j (omega (arith, length-take-le h (tableOf t) (omega (arith, held-count t k)))))
+module _ (d : ℕ) (ns : List ℕ) (seven : length ns ≤ mostHigher) where
+  pub above-counts : length (aboveOf d ns .counts) ≡ mostHigher
+  unfolding aboveOf
+  above-counts = length-padded mostHigher 0 ns seven
 
-  pub count-some : (j : ℕ) → j < h → 1 ≤ getD ns j 0
-  count-some j m =
-      subst (λ (n : ℕ). 1 ≤ n) (count-at Blank.noTask j m)
-      (subst (λ (x : Meant.Task). 1 ≤ length (pathsOf x d)) (sym (held-is t k Blank.noTask j (omega arith))) (paths-some (taskAt (tableOf t) j) (held-sound t k j (omega arith)) d))
+  pub above-roots : length (aboveOf d ns .roots) ≡ mostHigher
+  unfolding aboveOf
+  above-roots = length-padded mostHigher 0 (startsFrom d 0 ns) (omega (arith, length-starts d 0 ns))
 
-  -- the lister's answer, cut off past the most that are allowed
-  abbrev Capped : Task → ℕ → ℕ → Type 0
-  Capped z j r = r ≡ min (mostPaths + 1) (length (pathsOf (taskOf (getD (t .tasks) j z)) d))
+  pub above-rows : aboveOf d ns .rows ≡ rowsIn ns
+  unfolding aboveOf
+  above-rows = refl
 
-  pub calm-at : (z : Task) (j r : ℕ) → j < h → Capped z j r → r ≤ mostPaths → (r ≡ getD ns j 0) × (1 ≤ r)
-  calm-at z j r m e f = (omega (arith, count-at z j m), omega (arith, count-at z j m, count-some j m))
+  pub above-count : (j : ℕ) → j < length ns → getD (aboveOf d ns .counts) j 0 ≡ getD ns j 0
+  unfolding aboveOf
+  above-count j h = getD-padded mostHigher 0 0 ns j h
 
-  pub crowd-at : (z : Task) (j r : ℕ) → j < h → Capped z j r → mostPaths < r → mostPaths < getD ns j 0
-  crowd-at z j r m e f = omega (arith, count-at z j m)
+  pub above-root : (j : ℕ) → j < length ns → getD (aboveOf d ns .roots) j 0 ≡ rowsIn (take j ns) * d
+  unfolding aboveOf
+  above-root j h =
+      let e : 0 + rowsIn (take j ns) ≡ rowsIn (take j ns) = omega arith in
+      getD-padded mostHigher 0 0 (startsFrom d 0 ns) j (omega (arith, length-starts d 0 ns)) ∙ start-at d 0 ns j h ∙ ap (λ (k : ℕ). k * d) e
 
--- ---- what is counted is settled
-
--- two lists of seven that agree below j and are zero from there on
-agree : (j : ℕ) (xs ys : List ℕ) → length xs ≡ 7 → length ys ≡ 7 → ((k : ℕ) → k < j → getD xs k 0 ≡ getD ys k 0) → ((k : ℕ) → j ≤ k → getD xs k 0 ≡ getD ys k 0) → xs ≡ ys
-agree j xs ys a b f g = ext-getD 0 xs ys (a ∙ sym b) (λ k _. elim (decLt k j) [ yes h ↦ f k h | no h ↦ g k (omega arith) ])
-
-pub count-settled : SettledCount
-count-settled h d ns r s x y =
-    let p = x .calm in
-    let q = y .calm in
-    let at : r .crowded ≡ s .crowded = same-place (decLt (r .crowded) (s .crowded)) (decLt (s .crowded) (r .crowded)) in
-    let counts = agree (r .crowded) (r .counts) (s .counts) (p .counts7) (q .counts7) (λ k m. p .same k m ∙ sym (q .same k (omega (arith, at)))) (λ k m. p .spare k m .0 ∙ sym (q .spare k (omega (arith, at)) .0)) in
-    let roots = agree (r .crowded) (r .roots) (s .roots) (p .roots7) (q .roots7) (λ k m. p .starts k m ∙ sym (q .starts k (omega (arith, at)))) (λ k m. p .spare k m .1 ∙ sym (q .spare k (omega (arith, at)) .1)) in
-    let rows : r .rows ≡ s .rows = p .all ∙ ap (λ (k : ℕ). rowsIn (take k ns)) at ∙ sym (q .all) in
-    ap₂ (λ (c : List ℕ) (o : List ℕ). record { counts = c; roots = o; rows = r .rows; crowded = r .crowded }) counts roots ∙ ap₂ (λ (n k : ℕ). record { counts = s .counts; roots = s .roots; rows = n; crowded = k }) rows at
-  where
-    -- the first with too many is not among those that have few
-    same-place : Dec (r .crowded < s .crowded) → Dec (s .crowded < r .crowded) → r .crowded ≡ s .crowded
-    same-place (yes l) m = absurd (omega (arith, y .calm .few (r .crowded) l, x .crowd (omega (arith, y .calm .low))))
-    same-place (no l) (yes m) = absurd (omega (arith, x .calm .few (s .crowded) m, y .crowd (omega (arith, x .calm .low))))
-    same-place (no l) (no m) = omega arith
+  pub counted : ((j : ℕ) → j < length ns → getD ns j 0 ≤ mostPaths) → Counted (length ns) (aboveOf d ns)
+  counted few = record { counts = above-counts; roots = above-roots; rows = omega (arith, above-rows, rows-few ns few) }

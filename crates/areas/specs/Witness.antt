@@ -11,8 +11,12 @@ use Rattle.lister.specs.declared.Path as Lister
 abbrev pub pathCells : Lister.Path → List ℕ
 pathCells p = p .len ∷ map (λ (v : VertexNumber). v .0) (take (p .len) (p .vertices))
 
+-- the path at a place of a task's list, none where there is no such place
+abbrev pub pathAt : Task → ℕ → ℕ → Path
+pathAt k d p = getD (pathsOf k d) p []
+
 -- of each task the path at its place
 abbrev pub pathsAt : List Task → ℕ → List ℕ → List Path
 pathsAt [] d ps = []
 pathsAt (k ∷ ks) d [] = []
-pathsAt (k ∷ ks) d (p ∷ ps) = getD (pathsOf k d) p [] ∷ pathsAt ks d ps
+pathsAt (k ∷ ks) d (p ∷ ps) = pathAt k d p ∷ pathsAt ks d ps

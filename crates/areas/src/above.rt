@@ -1,53 +1,38 @@
-// The tasks of higher priority: how many complete paths each has, and where its stretch of the work area begins.
+// The tasks of higher priority: how many paths each has, and where its stretch of the work area begins.
+use bounds::MOST_HIGHER;
+use bounds::PerTask;
 use kinds::Ticks;
-use lister::path_count;
-use table::Table;
-ghost use Prim.Native.Nat.{_+_, _≤_, _<_};
-ghost use Rattle.meaning.specs.Bounds.{largestD};
-ghost use Rattle.meaning.specs.Table.{higher};
-ghost use Rattle.table.specs.Record.{tableOf, Held};
-ghost use Rattle.areas.specs.Above.{pathCounts, Counted};
+ghost use mathlib.Core.Path.{_≡_};
+ghost use Prim.Native.Nat.{_≤_, _<_};
+ghost use Rattle.meaning.specs.Bounds.{mostHigher, mostPaths, largestD};
+ghost use Rattle.areas.specs.Above.{noneAbove, withPaths, Counted};
 
-// More than 64 paths are too many; the lister need not count further.
-const MOST: usize = 64;
-
-// Of the tasks up to the first that has too many paths, `crowded`, or of all where there is none: how many paths each has, where its stretch begins, and
-// how many rows they have in all.
+// Of the tasks counted so far: how many paths each has, where its stretch begins, zeros behind them; and how many rows they have in all.
 pub struct Above {
-    pub counts: [usize; 7],
-    pub roots: [usize; 7],
+    pub counts: PerTask,
+    pub roots: PerTask,
     pub rows: usize,
-    pub crowded: usize,
 }
 
-pub fn count_above(t: Table, h: usize, d: Ticks) -> Above
-    requires { ⌜ Held t × (h < t .n) × (0 < d .0) × (d .0 ≤ largestD) ⌝ }
-    ensures { λ r. ⌜ Counted h (d .0) (pathCounts (higher (tableOf t) h) (d .0)) r ⌝ }
+pub fn none_above() -> Above
+    ensures { λ r. ⌜ r ≡ noneAbove ⌝ }
 {
-    let mut counts = [0usize; 7];
-    let mut roots = [0usize; 7];
-    let mut rows: usize = 0;
-    let mut j: usize = 0;
-    while j < h {
-        let task = t.tasks[j];
-        let paths = path_count(task, d, MOST + 1);
-        if MOST < paths {
-            return Above {
-                counts,
-                roots,
-                rows,
-                crowded: j,
-            };
-        }
-        counts[j] = paths;
-        roots[j] = rows * (d.0 as usize);
-        rows += 2 * paths - 1;
-        j += 1;
-    }
     Above {
-        counts,
-        roots,
-        rows,
-        crowded: j,
+        counts: [0; MOST_HIGHER],
+        roots: [0; MOST_HIGHER],
+        rows: 0,
     }
+}
+
+// With the paths of task j, for deadline d.
+pub fn with_paths(above: Above, j: usize, paths: usize, d: Ticks) -> Above
+    requires { ⌜ Counted j above × (j < mostHigher) ⌝ }
+    requires { ⌜ (0 < paths) × (paths ≤ mostPaths) × (d .0 ≤ largestD) ⌝ }
+    ensures { λ r. ⌜ r ≡ withPaths above j paths (d .0) ⌝ }
+{
+    let mut next = above;
+    next.counts[j] = paths;
+    next.roots[j] = above.rows * (d.0 as usize);
+    next.rows = above.rows + (2 * paths - 1);
+    next
 }

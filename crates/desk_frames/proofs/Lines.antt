@@ -7,9 +7,10 @@ use mathlib.Core.List.{List, [], _∷_, _++_}
 use lib.ListN.{length, set, take, getD, length-append}
 use lib.Seq.{take-suc, take-all}
 use Rattle.meaning.specs.Lists.{gather}
+use Rattle.meaning.specs.Bounds.{lineLength}
 use Rattle.meaning.specs.Text.{lineFeed}
 use Rattle.meaning.specs.Paths.{Path}
-use Rattle.meaning.specs.Desk.{digit, digits, line, pathFrame}
+use Rattle.meaning.specs.Desk.{digit, digits, line, pathHead, pathFrame}
 use Rattle.meaning.proofs.Lists.{gather-append}
 use Rattle.meaning.specs.Areas.{Wrote}
 use Rattle.meaning.proofs.Wrote.{wrote-none, wrote-then, wrote-length}
@@ -32,7 +33,7 @@ digits-length : (xs : List ℕ) → length (gather digits xs) ≡ 2 * length xs
 digits-length [] = refl
 digits-length (x ∷ xs) = omega (arith, digits-length xs)
 
-pub line-length : (f : List ℕ) → length (line f) ≡ 2 * length f + 1
+pub line-length : (f : List ℕ) → length (line f) ≡ lineLength (length f)
 line-length f = rw length-append (omega (arith, digits-length f))
 
 -- how far the digits reach
@@ -40,7 +41,8 @@ pub digits-end : (f : List ℕ) {out after : List ℕ} {at next : ℕ} → Wrote
 digits-end f {at = at} w = w .end ∙ ap (λ (k : ℕ). at + k) (digits-length f)
 
 -- and then the line feed
-pub wrote-line : (f : List ℕ) {out mid : List ℕ} {at next : ℕ} → Wrote (gather digits f) out at mid next → Wrote (line f) out at (set mid next lineFeed) (next + 1)
+pub wrote-line : (f : List ℕ) {out mid : List ℕ} {at next : ℕ} → Wrote (gather digits f) out at mid next
+    → Wrote (line f) out at (set mid next lineFeed) (next + 1)
 wrote-line f {mid = mid} {next = next} w = wrote-then (gather digits f) (lineFeed ∷ []) w (record { cells = refl; end = refl })
 
 -- after i of the bytes
@@ -74,6 +76,7 @@ putting-all {bytes} {out} {now} {at} {next} {i} p h = subst (λ (l : List ℕ). 
 
 -- ---- a path's frame: its head, then its vertices
 
-pub head-then : (i : ℕ) (w : Path) {out mid after : List ℕ} {at next last : ℕ} → Wrote (gather digits (17 ∷ i ∷ length w ∷ [])) out at mid next → Wrote (gather digits w) mid next after last
+pub head-then : (i : ℕ) (w : Path) {out mid after : List ℕ} {at next last : ℕ}
+    → Wrote (gather digits (pathHead i (length w))) out at mid next → Wrote (gather digits w) mid next after last
     → Wrote (gather digits (pathFrame i w)) out at after last
-head-then i w a b = wrote-then (gather digits (17 ∷ i ∷ length w ∷ [])) (gather digits w) a b
+head-then i w a b = wrote-then (gather digits (pathHead i (length w))) (gather digits w) a b

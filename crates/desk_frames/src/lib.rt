@@ -12,10 +12,11 @@ use kinds::VertexNumber;
 use line::put_line;
 use path::path_lines;
 ghost use Prim.Native.Nat.{_+_, _≤_};
-ghost use lib.ListN.{length, getD};
-ghost use Rattle.meaning.specs.Desk.{line, verdictFrame, countsFrame, refusalFrame};
-ghost use Rattle.kinds.specs.Numbers.{refusalNumber, verdictNumbers};
-ghost use Rattle.desk_frames.specs.Lines.{WholeShown, shownLines};
+ghost use lib.ListN.{length};
+ghost use Rattle.meaning.specs.Bounds.{verdictLine, countsLine, refusalLine};
+ghost use Rattle.meaning.specs.Desk.{line, countsFrame, refusalFrame};
+ghost use Rattle.kinds.specs.Numbers.{refusalNumber};
+ghost use Rattle.desk_frames.specs.Lines.{WholeShown, placeOf, shownVerdict, shownLines};
 ghost use Rattle.meaning.specs.Areas.{Wrote};
 
 // A vertex's verdict, and after a miss one path a higher task, out of the witness area's cells.
@@ -27,8 +28,8 @@ pub fn vertex_lines(
     verdict: Verdict,
     cells: &[u16],
 ) -> usize
-    requires { ⌜ WholeShown verdict (task .0) (now cells) × (at + length (shownLines (record { task = task .0; vertex = vertex .0 }) verdict (now cells)) ≤ length (now out)) ⌝ }
-    ensures { λ r. ⌜ Wrote (shownLines (record { task = task .0; vertex = vertex .0 }) verdict (now (cells .entry))) (now (out .entry)) at (now (out .exit)) r ⌝ }
+    requires { ⌜ WholeShown verdict (task .0) (now cells) × (at + length (shownLines (placeOf task vertex) verdict (now cells)) ≤ length (now out)) ⌝ }
+    ensures { λ r. ⌜ Wrote (shownLines (placeOf task vertex) verdict (now (cells .entry))) (now (out .entry)) at (now (out .exit)) r ⌝ }
 {
     let next = verdict_line(out, at, task, vertex, verdict);
     match verdict {
@@ -46,8 +47,8 @@ fn verdict_line(
     vertex: VertexNumber,
     verdict: Verdict,
 ) -> usize
-    requires { ⌜ at + 17 ≤ length (now out) ⌝ }
-    ensures { λ r. ⌜ Wrote (line (verdictFrame (record { task = task .0; vertex = vertex .0 }) (getD (verdictNumbers verdict) 0 0) (getD (verdictNumbers verdict) 1 0))) (now (out .entry)) at (now (out .exit)) r ⌝ }
+    requires { ⌜ at + verdictLine ≤ length (now out) ⌝ }
+    ensures { λ r. ⌜ Wrote (shownVerdict (placeOf task vertex) verdict) (now (out .entry)) at (now (out .exit)) r ⌝ }
 {
     let kind = kinds::verdict_number(verdict);
     let count = kinds::verdict_value(verdict);
@@ -74,7 +75,7 @@ pub fn counts_line(
     unfinishing: u8,
     refusing: u8,
 ) -> usize
-    requires { ⌜ at + 11 ≤ length (now out) ⌝ }
+    requires { ⌜ at + countsLine ≤ length (now out) ⌝ }
     ensures { λ r. ⌜ Wrote (line (countsFrame (record { meeting = meeting; missing = missing; unfinishing = unfinishing; refusing = refusing }))) (now (out .entry)) at (now (out .exit)) r ⌝ }
 {
     let frame = [31u8, meeting, missing, unfinishing, refusing];
@@ -83,7 +84,7 @@ pub fn counts_line(
 
 // A refused text or input.
 pub fn refusal_line(out: &mut [u8], at: usize, refused: RefusedAt) -> usize
-    requires { ⌜ at + 9 ≤ length (now out) ⌝ }
+    requires { ⌜ at + refusalLine ≤ length (now out) ⌝ }
     ensures { λ r. ⌜ Wrote (line (refusalFrame (refusalNumber (refused .refusal)) (refused .place))) (now (out .entry)) at (now (out .exit)) r ⌝ }
 {
     let refusal = refused.refusal;

@@ -3,6 +3,7 @@ ghost use mathlib.Core.Path.{_≡_};
 ghost use Prim.Native.Nat.{_+_, _*_, _≤_, _<_};
 ghost use lib.ListN.{length};
 ghost use Rattle.meaning.specs.Lists.{gather};
+ghost use Rattle.meaning.specs.Bounds.{lineLength};
 ghost use Rattle.meaning.specs.Desk.{digit, digits, line};
 ghost use Rattle.meaning.specs.Areas.{Wrote};
 
@@ -39,7 +40,7 @@ pub(crate) fn put_bytes(out: &mut [u8], at: usize, bytes: &[u8]) -> usize
 }
 
 pub(crate) fn put_line(out: &mut [u8], at: usize, frame: &[u8]) -> usize
-    requires { ⌜ at + 2 * length (now frame) < length (now out) ⌝ }
+    requires { ⌜ at + lineLength (length (now frame)) ≤ length (now out) ⌝ }
     ensures { λ r. ⌜ Wrote (line (now (frame .entry))) (now (out .entry)) at (now (out .exit)) r ⌝ }
 {
     let next = put_bytes(out, at, frame);

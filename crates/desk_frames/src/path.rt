@@ -2,11 +2,12 @@
 use crate::line::put_byte;
 use crate::line::put_bytes;
 ghost use mathlib.Core.Path.{_≡_};
-ghost use Prim.Native.Nat.{_+_, _*_, _≤_, _<_};
+ghost use Prim.Native.Nat.{_+_, _*_, _≤_};
 ghost use lib.ListN.{length};
 ghost use Rattle.meaning.specs.Lists.{gather};
-ghost use Rattle.meaning.specs.Desk.{digits, line, pathFrame, pathFrames};
-ghost use Rattle.desk_frames.specs.Lines.{Bytes, WholePaths, cellPaths};
+ghost use Rattle.meaning.specs.Bounds.{pathLine};
+ghost use Rattle.meaning.specs.Desk.{digits, line, pathFrame};
+ghost use Rattle.desk_frames.specs.Lines.{FitsByte, Bytes, WholePaths, cellPaths, pathLines};
 ghost use Rattle.meaning.specs.Areas.{Wrote};
 
 fn wide(x: u16) -> usize
@@ -30,7 +31,7 @@ fn put_vertices(out: &mut [u8], at: usize, vertices: &[u16]) -> usize
 
 // One task's path.
 fn path_line(out: &mut [u8], at: usize, task: u8, path: &[u16]) -> usize
-    requires { ⌜ (at + 2 * length (now path) + 6 < length (now out)) × (length (now path) ≤ 255) × Bytes (now path) ⌝ }
+    requires { ⌜ (at + pathLine (length (now path)) ≤ length (now out)) × FitsByte (length (now path)) × Bytes (now path) ⌝ }
     ensures { λ r. ⌜ Wrote (line (pathFrame task (now (path .entry)))) (now (out .entry)) at (now (out .exit)) r ⌝ }
 {
     let head = [17u8, task, path.len() as u8];
@@ -42,8 +43,8 @@ fn path_line(out: &mut [u8], at: usize, task: u8, path: &[u16]) -> usize
 
 // The paths of h higher tasks, one line each.
 pub(crate) fn path_lines(out: &mut [u8], at: usize, cells: &[u16], h: usize) -> usize
-    requires { ⌜ (h ≤ 255) × WholePaths h (now cells) × (at + length (gather line (pathFrames 0 (cellPaths h (now cells)))) ≤ length (now out)) ⌝ }
-    ensures { λ r. ⌜ Wrote (gather line (pathFrames 0 (cellPaths h (now (cells .entry))))) (now (out .entry)) at (now (out .exit)) r ⌝ }
+    requires { ⌜ FitsByte h × WholePaths h (now cells) × (at + length (pathLines 0 (cellPaths h (now cells))) ≤ length (now out)) ⌝ }
+    ensures { λ r. ⌜ Wrote (pathLines 0 (cellPaths h (now (cells .entry)))) (now (out .entry)) at (now (out .exit)) r ⌝ }
 {
     let mut next = at;
     let mut k = 0;

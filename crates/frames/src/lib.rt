@@ -2,44 +2,57 @@
 //
 // One line: whether the frame that must stand there does, and by which row of the refusal sheet the line is refused where it does not. A line
 // is looked through for the reason only where the expected frame fails.
-use crate::digits::line_digits;
-use crate::digits::pair_at;
-use crate::digits::word_at;
+use bounds::MOST_TASKS;
+use bounds::MOST_VERTICES;
+use digits::line_digits;
+use digits::pair_at;
+use digits::word_at;
 use kinds::Refusal;
 use kinds::Ticks;
 use kinds::VertexNumber;
-use lines::EdgeLine;
-use lines::TaskOrEndLine;
-use lines::VertexLine;
+use rules::edge_after;
+use rules::edge_in;
+use rules::edge_spaced;
+use rules::task_in;
+use rules::vertex_in;
 use table::Edge;
 use table::Vertex;
 ghost use mathlib.Core.Path.{_≡_};
 ghost use Prim.Native.Nat.{_<_, _≤_};
 ghost use Rattle.meaning.specs.Bounds.{mostVertices};
-ghost use Rattle.lines.specs.Digits.{Worths};
-ghost use Rattle.lines.specs.Frames.{faultOf, startsWith, vertexIn, vertexLine, edgeIn, edgeLine, endLine, taskIn, taskOrEndLine};
+ghost use Rattle.digits.specs.Digits.{Worths};
+ghost use Rattle.frames.specs.Frames.{faultOf, startsWith, vertexLine, edgeLine, endLine, taskOrEndLine};
 
-pub mod digits; // digits.rt: what stands at a place of a text
-
-// The bounds of the numbers in a frame; the least of each is 1, of edges 0.
-const MOST_TASKS: usize = 8;
-
-const MOST_VERTICES: u32 = 12;
-
-const MOST_EDGES: u32 = 32;
-
-const LARGEST_E: u32 = 1000;
-
-const LARGEST_D: u32 = 200;
-
-const LARGEST_P: u32 = 1000;
-
-// The digits of each frame's line; a vertex's and an edge's have the same.
+// The digits of each frame's line, and with the line feed its bytes; a vertex's and an edge's have the same.
 const TASK_DIGITS: usize = 6;
 
 const PART_DIGITS: usize = 10;
 
 const END_DIGITS: usize = 2;
+
+pub const TASK_BYTES: usize = TASK_DIGITS + 1;
+
+pub const PART_BYTES: usize = PART_DIGITS + 1;
+
+pub const END_BYTES: usize = END_DIGITS + 1;
+
+// What a line gives.
+pub enum VertexLine {
+    VertexTaken(Vertex),
+    VertexRefused(Refusal),
+}
+
+pub enum EdgeLine {
+    EdgeTaken(Edge),
+    EdgeRefused(Refusal),
+}
+
+// After whole tasks: another task's frame with its counts of vertices and edges, or the end frame.
+pub enum TaskOrEndLine {
+    TaskTaken(usize, usize),
+    EndTaken,
+    FrameRefused(Refusal),
+}
 
 // How a line is refused that should have n digits: for what it is (1, 2, or 6 where there is none), and else by the row `then`.
 pub(crate) fn fault(w: &[u16; 256], text: &[u8], n: usize, then: Refusal) -> Refusal
@@ -76,21 +89,6 @@ pub(crate) fn starts(text: &[u8], kind: u8, n: usize) -> bool
     text[n] == b'\n'
 }
 
-pub(crate) fn vertex_in(e: u32, d: u32) -> bool
-    ensures { λ r. ⌜ r ≡ vertexIn e d ⌝ }
-{
-    if e < 1 {
-        return false;
-    }
-    if LARGEST_E < e {
-        return false;
-    }
-    if d < 1 {
-        return false;
-    }
-    d <= LARGEST_D
-}
-
 pub fn vertex_line(w: &[u16; 256], text: &[u8]) -> VertexLine
     requires { ⌜ Worths (now w) ⌝ }
     ensures { λ r. ⌜ r ≡ vertexLine (now (text .entry)) ⌝ }
@@ -109,27 +107,12 @@ pub fn vertex_line(w: &[u16; 256], text: &[u8]) -> VertexLine
     })
 }
 
-pub(crate) fn edge_in(n: u32, from: u32, to: u32, p: u32) -> bool
-    ensures { λ r. ⌜ r ≡ edgeIn n from to p ⌝ }
-{
-    if n <= from {
-        return false;
-    }
-    if n <= to {
-        return false;
-    }
-    if p < 1 {
-        return false;
-    }
-    p <= LARGEST_P
-}
-
-// In a task of n vertices; the edge before it leaves the places from `least` on, where (from, to) has the place from x 256 + to.
+// In a task of n vertices; the edge before it leaves the places from `least` on.
 pub fn edge_line(
     w: &[u16; 256],
     text: &[u8],
     n: usize,
-    vertices: [Vertex; 12],
+    vertices: [Vertex; MOST_VERTICES],
     least: u32,
 ) -> EdgeLine
     requires { ⌜ (n ≤ mostVertices) × Worths (now w) ⌝ }
@@ -146,17 +129,18 @@ pub fn edge_line(
     }
     let v = from as usize;
     let start = vertices[v];
-    if p < start.d.0 as u32 {
+    if !edge_spaced(start.d.0 as u32, p) {
         return EdgeLine::EdgeRefused(Refusal::DeadlineOverSeparation);
     }
-    if from * 256 + to < least {
-        return EdgeLine::EdgeRefused(Refusal::EdgeNotAfter);
-    }
-    EdgeLine::EdgeTaken(Edge {
+    let edge = Edge {
         from: VertexNumber(from as u8),
         to: VertexNumber(to as u8),
         p: Ticks(p as u16),
-    })
+    };
+    if !edge_after(least, edge.from.0, edge.to.0) {
+        return EdgeLine::EdgeRefused(Refusal::EdgeNotAfter);
+    }
+    EdgeLine::EdgeTaken(edge)
 }
 
 // The end's line, after k whole tasks.
@@ -171,18 +155,6 @@ pub(crate) fn end_line(w: &[u16; 256], text: &[u8], k: usize) -> TaskOrEndLine
         return TaskOrEndLine::FrameRefused(Refusal::WrongFrame);
     }
     TaskOrEndLine::EndTaken
-}
-
-pub(crate) fn task_in(v: u32, e: u32) -> bool
-    ensures { λ r. ⌜ r ≡ taskIn v e ⌝ }
-{
-    if v < 1 {
-        return false;
-    }
-    if MOST_VERTICES < v {
-        return false;
-    }
-    e <= MOST_EDGES
 }
 
 // The line after k whole tasks: another task's, or the end's.

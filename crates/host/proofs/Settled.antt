@@ -1,13 +1,15 @@
--- What a C host is told settles the answer: no two results satisfy a statement, and a whole table's answer can be taken out of its number again. Assumes nothing.
+-- What a C host is told settles the answer: no two results satisfy a statement, and a whole table's answer can be taken out of its number. Assumes nothing.
 use mathlib.Core.Path.{_≡_, refl, sym, ap, subst, _∙_}
 use Prim.Native.Nat.{ℕ, _+_, _*_, _/_, _%_, _≤_}
 use native.Mathlib.Omega.{arith}
 use mathlib.Core.List.{List}
 use lib.ListN.{length}
+use Rattle.meaning.specs.Bounds.{mostTasks, mostVertices}
 use Rattle.meaning.specs.Text.{Reading, readable, unreadable, read}
 use Rattle.meaning.specs.Whole.{Counts, TableAnswer, counted, uncounted, countsOf, verdicts, tableAnswer}
 use Rattle.meaning.proofs.Demands.{readable-sound, text-refused}
 use Rattle.meaning.proofs.Counts.{counts-all, vertices-few}
+use Rattle.counts.specs.Counts.{totalOf}
 use Rattle.host.specs.Told.{VertexTold, countsNumber, tableNumber, TableTold}
 
 pub vertex-settled : (text : List ℕ) (i v b : ℕ) (work wit : List ℕ) (n value place m value₂ place₂ : ℕ) (work₁ wit₁ work₂ wit₂ : List ℕ)
@@ -26,14 +28,15 @@ Unpacked (counted c) r =
     (r / 4294967296 ≡ 0) × (r / 16777216 ≡ c .meeting) × (r / 65536 % 256 ≡ c .missing) × (r / 256 % 256 ≡ c .unfinishing) × (r % 256 ≡ c .refusing)
 Unpacked (uncounted k n) r = (1 ≤ k) × (r / 4294967296 ≡ k) × (r % 4294967296 ≡ n)
 
-counts-unpacked : (c : Counts) → c .meeting + c .missing + c .unfinishing + c .refusing ≤ 255 → Unpacked (counted c) (countsNumber c)
+counts-unpacked : (c : Counts) → totalOf c ≤ mostTasks * mostVertices → Unpacked (counted c) (countsNumber c)
 counts-unpacked c f =
     let second : countsNumber c / 65536 ≡ c .meeting * 256 + c .missing = omega (arith, f) in
     let third : countsNumber c / 256 ≡ (c .meeting * 256 + c .missing) * 256 + c .unfinishing = omega (arith, f) in
     let byte : ℕ → ℕ = λ n. n % 256 in
     (omega (arith, f), omega (arith, f), ap byte second ∙ omega (arith, f), ap byte third ∙ omega (arith, f), omega (arith, f))
 
-pub table-unpacked : (text : List ℕ) (b : ℕ) (work : List ℕ) (r : ℕ) (work′ : List ℕ) → TableTold text b work r work′ → Unpacked (tableAnswer (read text) b (length work)) r
+pub table-unpacked : (text : List ℕ) (b : ℕ) (work : List ℕ) (r : ℕ) (work′ : List ℕ) → TableTold text b work r work′
+    → Unpacked (tableAnswer (read text) b (length work)) r
 table-unpacked text b work r work′ p =
     subst (Unpacked (tableAnswer (read text) b (length work))) (sym (p .number)) (go (read text) refl)
   where

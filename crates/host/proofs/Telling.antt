@@ -10,10 +10,10 @@ use Rattle.judge.specs.Judged.{Judged}
 use Rattle.judge.specs.Whole.{answerOf, TableJudged}
 use Rattle.host.specs.Told.{VertexTold, tableNumber, TableTold}
 
-pub vertex-told : (text : List ℕ) (i v b : ℕ) (work wit : List ℕ) (r : Verdict) (work′ wit′ : List ℕ) → Judged text i v b work wit r work′ wit′
-    → (number value place : ℕ) → number ≡ getD (verdictNumbers r) 0 0 → value ≡ getD (verdictNumbers r) 1 0 → place ≡ getD (verdictNumbers r) 2 0
+pub vertex-told : (text : List ℕ) (i v b : ℕ) {work wit work′ wit′ : List ℕ} (r : Verdict) → Judged text i v b work wit r work′ wit′
+    → {number value place : ℕ} → number ≡ getD (verdictNumbers r) 0 0 → value ≡ getD (verdictNumbers r) 1 0 → place ≡ getD (verdictNumbers r) 2 0
     → VertexTold text i v b work wit number value place work′ wit′
-vertex-told text i v b work wit r work′ wit′ j number value place p q s =
+vertex-told text i v b r j p q s =
     record {
       number-is = p ∙ ap (λ (ns : List ℕ). getD ns 0 0) (j .verdict);
       value-is = q ∙ ap (λ (ns : List ℕ). getD ns 1 0) (j .verdict);
@@ -23,6 +23,6 @@ vertex-told text i v b work wit r work′ wit′ j number value place p q s =
     }
 
 -- of a whole table, from the case that its verdict was taken apart into
-pub table-told : (text : List ℕ) (b : ℕ) (work : List ℕ) (r s : TableVerdict) (work′ : List ℕ) → TableJudged text b work r work′ → r ≡ s
-    → (n : ℕ) → n ≡ tableNumber (answerOf s) → TableTold text b work n work′
-table-told text b work r s work′ j q n p = record { number = p ∙ ap (λ (x : TableVerdict). tableNumber (answerOf x)) (sym q) ∙ ap tableNumber (j .verdict); cells = j .cells }
+pub table-told : {text : List ℕ} {b : ℕ} {work work′ : List ℕ} {r s : TableVerdict} → TableJudged text b work r work′ → r ≡ s
+    → {n : ℕ} → n ≡ tableNumber (answerOf s) → TableTold text b work n work′
+table-told j q p = record { number = p ∙ ap (λ (x : TableVerdict). tableNumber (answerOf x)) (sym q) ∙ ap tableNumber (j .verdict); cells = j .cells }

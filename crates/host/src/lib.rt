@@ -3,7 +3,7 @@
 //
 // Names that a C program sees start with the project's. A vertex's value and place come back behind pointers, C's way to return more than one number: a
 // count may take 32 bits, and the place beside it has no width of its own.
-use judge::Counts;
+use counts::Counts;
 use judge::TableVerdict;
 use judge::desk_output;
 use judge::judge;
@@ -18,7 +18,7 @@ ghost use mathlib.Core.Path.{_≡_};
 ghost use lib.ListN.{length};
 ghost use Rattle.meaning.specs.Areas.{Wrote};
 ghost use Rattle.judge.specs.Desk.{outputInto};
-ghost use Rattle.judge.specs.Whole.{meantCounts};
+ghost use Rattle.counts.specs.Counts.{meantCounts};
 ghost use Rattle.host.specs.Told.{VertexTold, countsNumber, TableTold};
 
 // One vertex of the text's table: gives the verdict's number, 0 meets, 1 misses, 2 unfinished, 3 refused. The value is the count, the budget or the

@@ -14,7 +14,7 @@ use Rattle.kinds.specs.declared.Verdict.the-variants.{Refused}
 use Rattle.table.specs.declared.Table.{Table}
 use Rattle.table.specs.Record.{tableOf, Held}
 use Rattle.reader.proofs.Result.{TableRead, LineRefused}
-use Rattle.judge.specs.declared.Counts.{Counts}
+use Rattle.counts.specs.declared.Counts.{Counts}
 use Rattle.judge.specs.declared.TableVerdict.{TableVerdict}
 use Rattle.judge.specs.declared.TableVerdict.the-variants as Whole
 use Rattle.judge.specs.Judged.{Answered, Judged}

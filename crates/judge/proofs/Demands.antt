@@ -21,11 +21,12 @@ use Rattle.kinds.specs.declared.Verdict.{Verdict}
 use Rattle.kinds.specs.declared.Verdict.the-variants.{Meets, Misses, Unfinished, Refused}
 use Rattle.kinds.specs.Numbers.{refusalNumber, refusalOf, verdictNumbers}
 use Rattle.kinds.proofs.Numbers.{refusal-of-number, same-verdict}
-use Rattle.judge.specs.declared.Counts.{Counts}
+use Rattle.counts.specs.declared.Counts.{Counts}
+use Rattle.counts.specs.Counts.{meantCounts, totalOf}
 use Rattle.judge.specs.declared.TableVerdict.{TableVerdict}
 use Rattle.judge.specs.declared.TableVerdict.the-variants as Whole
 use Rattle.judge.specs.Judged.{Judged}
-use Rattle.judge.specs.Whole.{meantCounts, totalOf, answerOf, TableJudged}
+use Rattle.judge.specs.Whole.{answerOf, TableJudged}
 use Rattle.judge.specs.Demands.{Demand1, Demand2, Demand3, TextFirst, FourCounts, Settled, SettledTable, SettledOutput}
 use Rattle.judge.proofs.Cases.{says-meets, says-misses, says-unfinished, says-refused, is-refused}
 

@@ -5,68 +5,74 @@ use native.Mathlib.Omega.{arith}
 use mathlib.Core.List.{List, [], _∷_, _++_, map, append-nil, List·Memᴰ, List·Memᴰ·head, List·Memᴰ·tail}
 use lib.ListN.{length, length-append}
 use Rattle.meaning.specs.Lists.{gather}
-use Rattle.meaning.specs.Bounds.{largestD, deskBudget, deskWork, deskWitness}
+use Rattle.meaning.specs.Bounds.{largestD, deskBudget, deskWork, deskWitness, countsLine, longestPathLine, longestVertex, longestOutput}
 use Rattle.meaning.specs.Table.{Table}
 use Rattle.meaning.specs.Paths.{Path}
 use Rattle.meaning.specs.Verdict.{Verdict, meets, misses, unfinished, refused}
 use Rattle.meaning.specs.Sound.{SoundTable}
 use Rattle.meaning.specs.Whole.{Place, places, countsOf}
-use Rattle.meaning.specs.Desk.{line, pathFrame, pathFrames, vertexFrames, verdictFrame, countsFrame, deskVerdict, tableFrames}
+use Rattle.meaning.specs.Desk.{line, pathFrame, vertexFrames, verdictFrame, countsFrame, deskVerdict, tableFrames}
 use Rattle.meaning.proofs.Lists.{gather-append}
 use Rattle.meaning.proofs.Whole.{place-in}
 use Rattle.meaning.proofs.Counts.{places-few}
 use Rattle.meaning.proofs.MissPaths.{Fits, miss-count, miss-fits}
+use Rattle.desk_frames.specs.Lines.{pathLines}
 use Rattle.desk_frames.proofs.Lines.{line-length}
-use Rattle.judge.specs.Desk.{longestOutput}
 
 -- ---- the lines of vertices, and of a whole table
 
 unfoldable pub vertexLines : Table → Place → List ℕ
 vertexLines ts q = gather line (vertexFrames q (deskVerdict ts q))
 
-unfoldable pub linesOf : Table → List Place → List ℕ
-linesOf ts qs = gather line (gather (λ (q : Place). vertexFrames q (deskVerdict ts q)) qs)
+unfoldable pub bytesOf : Table → List Place → List ℕ
+bytesOf ts qs = gather line (gather (λ (q : Place). vertexFrames q (deskVerdict ts q)) qs)
 
-pub lines-cons : (ts : Table) (q : Place) (qs : List Place) → linesOf ts (q ∷ qs) ≡ vertexLines ts q ++ linesOf ts qs
-unfolding linesOf vertexLines
+pub lines-cons : (ts : Table) (q : Place) (qs : List Place) → bytesOf ts (q ∷ qs) ≡ vertexLines ts q ++ bytesOf ts qs
+unfolding bytesOf vertexLines
 lines-cons ts q qs = gather-append line (vertexFrames q (deskVerdict ts q)) (gather (λ (p : Place). vertexFrames p (deskVerdict ts p)) qs)
 
-unfoldable pub countsLine : Table → List ℕ
-countsLine ts = line (countsFrame (countsOf (map (deskVerdict ts) (places ts))))
+unfoldable pub countsBytes : Table → List ℕ
+countsBytes ts = line (countsFrame (countsOf (map (deskVerdict ts) (places ts))))
 
-pub table-lines : (ts : Table) → gather line (tableFrames ts) ≡ linesOf ts (places ts) ++ countsLine ts
-unfolding linesOf countsLine
+pub table-lines : (ts : Table) → gather line (tableFrames ts) ≡ bytesOf ts (places ts) ++ countsBytes ts
+unfolding bytesOf countsBytes
 table-lines ts =
     gather-append line (gather (λ (q : Place). vertexFrames q (deskVerdict ts q)) (places ts)) (countsFrame (countsOf (map (deskVerdict ts) (places ts))) ∷ [])
-    ∙ ap (λ (l : List ℕ). linesOf ts (places ts) ++ l) (append-nil (countsLine ts))
+    ∙ ap (λ (l : List ℕ). bytesOf ts (places ts) ++ l) (append-nil (countsBytes ts))
 
 -- ---- how long they are
 
-path-lines-short : (i : ℕ) (ws : List Path) → ((w : Path) → List·Memᴰ w ws → Fits largestD w) → length (gather line (pathFrames i ws)) ≤ 407 * length ws
+path-lines-short : (i : ℕ) (ws : List Path) → ((w : Path) → List·Memᴰ w ws → Fits largestD w) → length (pathLines i ws) ≤ longestPathLine * length ws
 path-lines-short i [] f = omega arith
 path-lines-short i (w ∷ ws) f =
-    omega (arith, length-append (line (pathFrame i w)) (gather line (pathFrames (suc i) ws)), line-length (pathFrame i w), f w (List·Memᴰ·head refl) .short, path-lines-short (suc i) ws (λ v m. f v (List·Memᴰ·tail m)))
+    let both = length-append (line (pathFrame i w)) (pathLines (suc i) ws) in
+    let own = line-length (pathFrame i w) in
+    let short = f w (List·Memᴰ·head refl) .short in
+    omega (arith, both, own, short, path-lines-short (suc i) ws (λ v m. f v (List·Memᴰ·tail m)))
 
 module _ (ts : Table) (s : SoundTable ts) where
-  vertex-short : (q : Place) → List·Memᴰ q (places ts) → length (vertexLines ts q) ≤ 2866
+  vertex-short : (q : Place) → List·Memᴰ q (places ts) → length (vertexLines ts q) ≤ longestVertex
   unfolding vertexLines
   vertex-short q m = go (deskVerdict ts q) refl
     where
-      go : (x : Verdict) → deskVerdict ts q ≡ x → length (gather line (vertexFrames q x)) ≤ 2866
+      go : (x : Verdict) → deskVerdict ts q ≡ x → length (gather line (vertexFrames q x)) ≤ longestVertex
       go (meets c) e = omega arith
       go (misses c ws) e =
           let p = place-in ts q m in
           let short = path-lines-short 0 ws (miss-fits ts s (q .task) (q .vertex) (p .0) (p .1) deskBudget deskWork deskWitness c ws e) in
           let few = miss-count ts s (q .task) (q .vertex) (p .0) (p .1) deskBudget deskWork deskWitness c ws e in
-          omega (arith, length-append (line (verdictFrame q 1 c)) (gather line (pathFrames 0 ws)), line-length (verdictFrame q 1 c), short, few, p .0, s .taskCount)
+          let head = line-length (verdictFrame q 1 c) in
+          omega (arith, length-append (line (verdictFrame q 1 c)) (pathLines 0 ws), head, short, few, p .0, s .taskCount)
       go (unfinished b) e = omega arith
       go (refused k place) e = omega arith
 
-  lines-short : (qs : List Place) → ((q : Place) → List·Memᴰ q qs → List·Memᴰ q (places ts)) → length (linesOf ts qs) ≤ 2866 * length qs
-  unfolding linesOf
+  lines-short : (qs : List Place) → ((q : Place) → List·Memᴰ q qs → List·Memᴰ q (places ts)) → length (bytesOf ts qs) ≤ longestVertex * length qs
+  unfolding bytesOf
   lines-short [] f = omega arith
   lines-short (q ∷ qs) f =
-      omega (arith, ap length (lines-cons ts q qs), length-append (vertexLines ts q) (linesOf ts qs), vertex-short q (f q (List·Memᴰ·head refl)), lines-short qs (λ p m. f p (List·Memᴰ·tail m)))
+      let both = ap length (lines-cons ts q qs) ∙ length-append (vertexLines ts q) (bytesOf ts qs) in
+      let own = vertex-short q (f q (List·Memᴰ·head refl)) in
+      omega (arith, both, own, lines-short qs (λ p m. f p (List·Memᴰ·tail m)))
 
-  pub lines-fit : length (linesOf ts (places ts)) + 11 ≤ longestOutput
+  pub lines-fit : length (bytesOf ts (places ts)) + countsLine ≤ longestOutput
   lines-fit = omega (arith, lines-short (places ts) (λ q m. m), places-few ts s)

@@ -1,9 +1,9 @@
-pub mod Joining
-pub mod Walking
 pub mod Sheet
+pub mod Higher
+pub mod Missing
 pub mod OneVertex
 pub mod Remaining
-pub mod Totals
+pub mod SoFar
 pub mod WholeTable
 pub mod Answers
 pub mod Cases

@@ -9,7 +9,7 @@ use lib.ListN.{length, length-append}
 use lib.Dec.{ltb}
 use borrow.Author.Tests.{lt-ltb, le-ltb}
 use Rattle.meaning.specs.Lists.{pick, gather}
-use Rattle.meaning.specs.Bounds.{longestInput}
+use Rattle.meaning.specs.Bounds.{longestInput, longestOutput}
 use Rattle.meaning.specs.Table as Meant
 use Rattle.meaning.specs.Text.{Reading, readable, unreadable, read}
 use Rattle.meaning.specs.Sound.{SoundTable}
@@ -24,8 +24,8 @@ use Rattle.reader.proofs.Result.{TableRead, LineRefused}
 use Rattle.meaning.specs.Areas.{Wrote}
 use Rattle.desk_frames.proofs.Lines.{line-length}
 use Rattle.meaning.proofs.Wrote.{wrote-none, wrote-length}
-use Rattle.judge.specs.Desk.{longestOutput, tableOutput, outputInto}
-use Rattle.judge.proofs.DeskLines.{linesOf, countsLine, table-lines, lines-fit}
+use Rattle.judge.specs.Desk.{tableOutput, outputInto}
+use Rattle.judge.proofs.DeskLines.{bytesOf, countsBytes, table-lines, lines-fit}
 
 module _ (text : List ℕ) where
   -- 12 is checked before all
@@ -48,7 +48,9 @@ module _ (text : List ℕ) where
     module _ {after : List ℕ} {r : ℕ} (room : longestOutput ≤ length out) where
       writes : (bytes : List ℕ) → output text ≡ bytes → Wrote bytes out 0 after r → Wrote (outputInto text (length out)) out 0 after r
       unfolding outputInto
-      writes bytes e w = subst (λ (b : Bool). Wrote (pick b [] (output text)) out 0 after r) (sym (le-ltb (length out) longestOutput room)) (subst (λ (l : List ℕ). Wrote l out 0 after r) (sym e) w)
+      writes bytes e w =
+          subst (λ (b : Bool). Wrote (pick b [] (output text)) out 0 after r) (sym (le-ltb (length out) longestOutput room))
+          (subst (λ (l : List ℕ). Wrote l out 0 after r) (sym e) w)
 
       pub writes-long : longestInput < length text → Wrote (line (refusalFrame 12 0)) out 0 after r → Wrote (outputInto text (length out)) out 0 after r
       writes-long h w = writes (line (refusalFrame 12 0)) (output-long h) w
@@ -58,7 +60,8 @@ module _ (text : List ℕ) where
         unfolding tableOutput
         writes-table t q w = writes (tableOutput (tableOf t)) (output-read short _ (q .means)) w
 
-        pub writes-refused : (at : RefusedAt) → LineRefused text at → Wrote (line (refusalFrame (refusalNumber (at .refusal)) (at .place))) out 0 after r → Wrote (outputInto text (length out)) out 0 after r
+        pub writes-refused : (at : RefusedAt) → LineRefused text at → Wrote (line (refusalFrame (refusalNumber (at .refusal)) (at .place))) out 0 after r
+            → Wrote (outputInto text (length out)) out 0 after r
         writes-refused at q w =
             let f = refusalFrame (refusalNumber (at .refusal)) (at .place) in
             writes (line f) (output-read short _ (q .means) ∙ append-nil (line f)) w
@@ -66,9 +69,11 @@ module _ (text : List ℕ) where
 -- ---- what is written fits the area
 
 table-fits : (ts : Meant.Table) → SoundTable ts → length (gather line (tableFrames ts)) ≤ longestOutput
-unfolding countsLine
+unfolding countsBytes
 table-fits ts s =
-    omega (arith, ap length (table-lines ts), length-append (linesOf ts (places ts)) (countsLine ts), line-length (countsFrame (countsOf (map (deskVerdict ts) (places ts)))), lines-fit ts s)
+    let both = ap length (table-lines ts) ∙ length-append (bytesOf ts (places ts)) (countsBytes ts) in
+    let last = line-length (countsFrame (countsOf (map (deskVerdict ts) (places ts)))) in
+    omega (arith, both, last, lines-fit ts s)
 
 reading-fits : (text : List ℕ) (m : Reading) → read text ≡ m → length (gather line (readingFrames m)) ≤ longestOutput
 reading-fits text (readable ts) e = table-fits ts (readable-sound text ts e)
@@ -76,7 +81,11 @@ reading-fits text (unreadable k n) e = omega arith
 
 pub output-fits : (text : List ℕ) (n : ℕ) → length (outputInto text n) ≤ n
 unfolding outputInto
-output-fits text n = elim (decLt n longestOutput) [ yes h ↦ rw (lt-ltb n longestOutput h) (omega arith) | no h ↦ rw (le-ltb n longestOutput (omega arith)) (omega (arith, short)) ]
+output-fits text n =
+    elim (decLt n longestOutput) [
+      | yes h ↦ rw (lt-ltb n longestOutput h) (omega arith)
+      | no h ↦ rw (le-ltb n longestOutput (omega arith)) (omega (arith, short))
+    ]
   where
     short : length (output text) ≤ longestOutput
     short =

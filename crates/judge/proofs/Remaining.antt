@@ -1,44 +1,25 @@
 -- A loop over the vertices of a table: those from a place on. Assumes nothing.
 use mathlib.Core.Path.{_≡_, refl, sym, ap, ap₂, subst, _∙_}
-use Prim.Native.Nat.{ℕ, zero, suc, _+_, _-_, _≤_, _<_}
+use Prim.Native.Nat.{ℕ, suc, _+_, _-_, _≤_, _<_}
 use native.Mathlib.Nat.{sub-zero}
 use native.Mathlib.Numerals.{add-one}
 use native.Mathlib.Omega.{arith}
 use native.Mathlib.Decide.{decLt}
 use mathlib.Core.List.{List, [], _∷_, _++_, map, List·Memᴰ, List·Memᴰ·head, List·Memᴰ·tail}
-use lib.ListN.{length, drop, List·getD-eq-default}
-use lib.Seq.{drop-cons, drop-nil}
-use borrow.Author.Tests.{lt-ltb, le-ltb}
+use lib.ListN.{length, drop, drop-of-length-le, List·getD-eq-default}
+use lib.Seq.{drop-cons}
 use Rattle.meaning.specs.Lists.{countFrom}
-use Rattle.meaning.specs.Bounds.{mostVertices}
 use Rattle.meaning.specs.Table.{Task, Table, noTask, taskAt}
 use Rattle.meaning.specs.Sound.{SoundTable}
 use Rattle.meaning.specs.Whole.{Place, placesFrom, places}
 use Rattle.meaning.proofs.Lists.{mem-getD}
 use Rattle.table.specs.declared.Table as Record
 use Rattle.table.specs.Record.{tableOf, Held}
-use Rattle.judge.specs.Whole.{firstPlace, size, nextPlace, There}
-use Rattle.table.proofs.Records.{held-count}
+use Rattle.counts.specs.Place.{firstPlace, nextPlace, Within}
+use Rattle.counts.proofs.NextPlace.{at, next-vertex, next-task}
+use Rattle.judge.specs.Whole.{size, nextIn, There}
+use Rattle.table.proofs.Records.{held-count, held-few}
 use Rattle.table.proofs.Vertices.{ownTask, own-size, own-few}
-
-abbrev at : ℕ → ℕ → Place
-at i v = record { task = i; vertex = v }
-
--- ---- past the end of a list
-
-past : {X : Type 0} (n : ℕ) (xs : List X) → length xs ≤ n → drop n xs ≡ []
-past n [] h = drop-nil n
-past zero (x ∷ xs) h = absurd (omega arith)
-past (suc n) (x ∷ xs) h = past n xs (omega arith)
-
--- ---- the next place
-
-module _ (ts : Table) (q : Place) where
-  next-vertex : q .vertex + 1 < size ts (q .task) → at (q .task) (q .vertex + 1) ≡ nextPlace ts q
-  next-vertex h = rw (lt-ltb (q .vertex + 1) (size ts (q .task)) h)
-
-  next-task : size ts (q .task) ≤ q .vertex + 1 → at (q .task + 1) 0 ≡ nextPlace ts q
-  next-task h = rw (le-ltb (q .vertex + 1) (size ts (q .task)) h)
 
 -- ---- the vertices from a place on
 
@@ -52,18 +33,21 @@ remaining-first (k ∷ ks) = rw (sub-zero (length (k .vertices)))
 pub remaining-none : (ts : Table) (q : Place) → length ts ≤ q .task → remaining ts q ≡ []
 remaining-none ts q h =
     let none : size ts (q .task) ≡ 0 = ap (λ (k : Task). length (k .vertices)) (List·getD-eq-default ts noTask h) in
-    let e : size ts (q .task) - q .vertex ≡ 0 = omega arith in
-    ap₂ (λ (n : ℕ) (ks : List Task). map (at (q .task)) (countFrom (q .vertex) n) ++ placesFrom (suc (q .task)) ks) e (past (suc (q .task)) ts (omega arith))
+    let own : size ts (q .task) - q .vertex ≡ 0 = omega arith in
+    let rest : drop (suc (q .task)) ts ≡ [] = drop-of-length-le ts {i = suc (q .task)} (omega arith) in
+    ap₂ (λ (n : ℕ) (ks : List Task). map (at (q .task)) (countFrom (q .vertex) n) ++ placesFrom (suc (q .task)) ks) own rest
 
 -- the tasks from a number on
 from-task : (ts : Table) (i : ℕ) → remaining ts (at i 0) ≡ placesFrom i (drop i ts)
 from-task ts i =
     elim (decLt i (length ts)) [
-      | yes h ↦ ap (λ (n : ℕ). map (at i) (countFrom 0 n) ++ placesFrom (suc i) (drop (suc i) ts)) (sub-zero (size ts i)) ∙ sym (ap (placesFrom i) (drop-cons ts i noTask h))
-      | no h ↦ remaining-none ts (at i 0) (omega arith) ∙ sym (ap (placesFrom i) (past i ts (omega arith)))
+      | yes h ↦
+          ap (λ (n : ℕ). map (at i) (countFrom 0 n) ++ placesFrom (suc i) (drop (suc i) ts)) (sub-zero (size ts i))
+          ∙ sym (ap (placesFrom i) (drop-cons ts i noTask h))
+      | no h ↦ remaining-none ts (at i 0) (omega arith) ∙ sym (ap (placesFrom i) (drop-of-length-le ts {i = i} (omega arith)))
     ]
 
-pub remaining-next : (ts : Table) (q : Place) → There ts q → remaining ts q ≡ q ∷ remaining ts (nextPlace ts q)
+pub remaining-next : (ts : Table) (q : Place) → There ts q → remaining ts q ≡ q ∷ remaining ts (nextIn ts q)
 remaining-next ts q h = elim (decLt (v + 1) (size ts i)) [ yes l ↦ within l | no l ↦ last (omega arith) ]
   where
     i : ℕ
@@ -75,17 +59,17 @@ remaining-next ts q h = elim (decLt (v + 1) (size ts i)) [ yes l ↦ within l | 
     rest : List Place
     rest = placesFrom (suc i) (drop (suc i) ts)
 
-    within : v + 1 < size ts i → remaining ts q ≡ q ∷ remaining ts (nextPlace ts q)
+    within : v + 1 < size ts i → remaining ts q ≡ q ∷ remaining ts (nextIn ts q)
     within l =
         let e : size ts i - v ≡ suc (size ts i - (v + 1)) = omega arith in
         ap (λ (n : ℕ). map (at i) (countFrom v n) ++ rest) e ∙ ap (λ (n : ℕ). q ∷ (map (at i) (countFrom n (size ts i - (v + 1))) ++ rest)) (sym (add-one v))
-        ∙ ap (λ (p : Place). q ∷ remaining ts p) (next-vertex ts q l)
+        ∙ ap (λ (p : Place). q ∷ remaining ts p) (next-vertex (size ts (q .task)) q l)
 
-    last : size ts i ≤ v + 1 → remaining ts q ≡ q ∷ remaining ts (nextPlace ts q)
+    last : size ts i ≤ v + 1 → remaining ts q ≡ q ∷ remaining ts (nextIn ts q)
     last l =
         let e : size ts i - v ≡ 1 = omega (arith, h .vertex) in
         ap (λ (n : ℕ). map (at i) (countFrom v n) ++ rest) e ∙ ap (λ (ps : List Place). q ∷ ps) (sym (from-task ts (suc i)))
-        ∙ ap (λ (n : ℕ). q ∷ remaining ts (at n 0)) (sym (add-one i)) ∙ ap (λ (p : Place). q ∷ remaining ts p) (next-task ts q l)
+        ∙ ap (λ (n : ℕ). q ∷ remaining ts (at n 0)) (sym (add-one i)) ∙ ap (λ (p : Place). q ∷ remaining ts p) (next-task (size ts (q .task)) q l)
 
 -- ---- a loop has come to a place
 
@@ -111,20 +95,20 @@ module _ {ts : Table} {q : Place} (r : Reached ts q) (l : q .task < length ts) w
   pub reached-in : List·Memᴰ q (places ts)
   reached-in = r .left q (subst (List·Memᴰ q) (sym (remaining-next ts q reached-there)) (List·Memᴰ·head refl))
 
-  inside-next : SoundTable ts → Inside ts (nextPlace ts q)
+  inside-next : SoundTable ts → Inside ts (nextIn ts q)
   inside-next s =
       elim (decLt (q .vertex + 1) (size ts (q .task))) [
-        | yes h ↦ subst (Inside ts) (next-vertex ts q h) (r .low, λ _. h)
-        | no h ↦ subst (Inside ts) (next-task ts q (omega arith)) (omega arith, some-vertex ts s (q .task + 1))
+        | yes h ↦ subst (Inside ts) (next-vertex (size ts (q .task)) q h) (r .low, λ _. h)
+        | no h ↦ subst (Inside ts) (next-task (size ts (q .task)) q (omega arith)) (omega arith, some-vertex ts s (q .task + 1))
       ]
 
-  pub reached-next : SoundTable ts → Reached ts (nextPlace ts q)
+  pub reached-next : SoundTable ts → Reached ts (nextIn ts q)
   reached-next s =
       let i = inside-next s in
       record { low = i .0; vertex = i .1; left = λ p m. r .left p (subst (List·Memᴰ p) (sym (remaining-next ts q reached-there)) (List·Memᴰ·tail m)) }
 
   -- the loop ends
-  pub reached-fewer : length (remaining ts (nextPlace ts q)) < length (remaining ts q)
+  pub reached-fewer : length (remaining ts (nextIn ts q)) < length (remaining ts q)
   reached-fewer = omega (arith, ap length (remaining-next ts q reached-there))
 
 -- ---- of a held table
@@ -133,11 +117,14 @@ module _ (t : Record.Table) (k : Held t) (q : Place) (h : There (tableOf t) q) w
   here : q .task < t .n
   here = omega (arith, held-count t k, h .task)
 
-  pub next-fits : q .vertex + 1 ≤ mostVertices
-  next-fits = omega (arith, own-few t k (q .task) here .0, own-size t k (q .task) here, h .vertex)
+  -- its numbers are small
+  pub there-within : Within q
+  there-within =
+      record {
+        task = omega (arith, here, held-few t k);
+        vertex = omega (arith, own-few t k (q .task) here .0, own-size t k (q .task) here, h .vertex);
+      }
 
-  pub next-own : q .vertex + 1 < ownTask t (q .task) .nv → at (q .task) (q .vertex + 1) ≡ nextPlace (tableOf t) q
-  next-own l = next-vertex (tableOf t) q (omega (arith, own-size t k (q .task) here))
-
-  pub next-below : ownTask t (q .task) .nv ≤ q .vertex + 1 → at (q .task + 1) 0 ≡ nextPlace (tableOf t) q
-  next-below l = next-task (tableOf t) q (omega (arith, own-size t k (q .task) here))
+  -- the record's number of vertices is the task's
+  pub next-in : {p : Place} → p ≡ nextPlace (ownTask t (q .task) .nv) q → p ≡ nextIn (tableOf t) q
+  next-in e = e ∙ ap (λ (n : ℕ). nextPlace n q) (own-size t k (q .task) here)

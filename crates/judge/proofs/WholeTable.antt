@@ -1,28 +1,27 @@
 -- Judging a table's vertices one after the other: the four counts and the work area. Assumes nothing.
-use mathlib.Core.Path.{_≡_, refl, sym, ap, subst, _∙_}
-use Prim.Native.Nat.{ℕ, _*_, _≤_, _<_}
-use native.Mathlib.Omega.{arith}
+use mathlib.Core.Path.{_≡_, refl, sym, ap, _∙_}
+use Prim.Native.Nat.{ℕ, _≤_, _<_}
 use mathlib.Core.List.{List, map}
 use lib.ListN.{length}
 use Rattle.meaning.specs.Lists.{largest}
-use Rattle.meaning.specs.Bounds.{mostTasks, mostVertices, deskWitness}
-use Rattle.meaning.specs.Table.{Table}
+use Rattle.meaning.specs.Bounds.{deskWitness}
+use Rattle.meaning.specs.Table as Meant
 use Rattle.meaning.specs.Verdict as Said
 use Rattle.meaning.specs.Verdict.{meets, misses, unfinished, refused, numbers}
 use Rattle.meaning.specs.Areas.{workNeed, zeroed, workAfter}
 use Rattle.meaning.specs.Judge.{judged}
 use Rattle.meaning.specs.Whole.{Place, verdictAt, needUnless, tableNeed}
-use Rattle.meaning.proofs.Whole.{verdict-at, desk-witness}
 use Rattle.kinds.specs.declared.Verdict.{Verdict}
-use Rattle.table.specs.declared.Table as Record
+use Rattle.table.specs.declared.Table.{Table}
 use Rattle.table.specs.Record.{tableOf, Held}
-use Rattle.judge.specs.declared.Counts.{Counts}
-use Rattle.judge.specs.Judged.{Answered}
-use Rattle.judge.specs.Whole.{firstPlace, nextPlace, There, noCounts, oneMore, total, TableCounted}
-use Rattle.table.proofs.Records.{held-count}
 use Rattle.areas.proofs.Fronts.{zeroed-twice}
-use Rattle.judge.proofs.Remaining.{remaining, remaining-first, remaining-next, remaining-none, Reached, reached-first, reached-there, reached-in, reached-next, reached-fewer}
-use Rattle.judge.proofs.Totals.{CountedSoFar, counted-first, counted-next, counted-all, counted-few}
+use Rattle.counts.specs.declared.Counts.{Counts}
+use Rattle.counts.specs.Counts.{noCounts, oneMore}
+use Rattle.counts.specs.Place.{firstPlace}
+use Rattle.judge.specs.Judged.{Answered}
+use Rattle.judge.specs.Whole.{nextIn, TableCounted}
+use Rattle.judge.proofs.Remaining.{remaining, remaining-first}
+use Rattle.judge.proofs.SoFar.{SoFar, so-far-none, so-far-end, so-far-all, so-far-next, so-far-said, so-far-more}
 
 -- the needed cells are zero; of a refused vertex none are
 after-need : (x : Said.Verdict) (need : ℕ) (cells : List ℕ) → workAfter x need cells ≡ zeroed (needUnless x need) cells
@@ -32,74 +31,71 @@ after-need (unfinished b) need cells = refl
 after-need (refused k place) need cells = refl
 
 -- what a vertex zeroes
-abbrev needAt : Table → ℕ → ℕ → Place → ℕ
+abbrev needAt : Meant.Table → ℕ → ℕ → Place → ℕ
 needAt ts b work q = needUnless (verdictAt ts b work q) (workNeed ts (q .task) (q .vertex))
 
--- come to the place q, with these counts and this work area
-pub record JudgedSoFar (ts : Table) (b : ℕ) (before now : List ℕ) (c : Counts) (q : Place) : Type 0 where
-  pub reached : Reached ts q
-  pub counts : CountedSoFar ts b (length before) c q
+-- with what some vertices zero
+abbrev front : Meant.Table → ℕ → ℕ → List Place → List ℕ → List ℕ
+front ts b work qs cells = zeroed (largest (map (needAt ts b work) qs)) cells
+
+-- come to the place q, with these counts and these areas
+pub record JudgedSoFar (t : Table) (b : ℕ) (before now wit : List ℕ) (c : Counts) (q : Place) : Type 0 where
+  pub so-far : SoFar t b (length before) c q
   pub same : length now ≡ length before
-  pub cells : zeroed (largest (map (needAt ts b (length before)) (remaining ts q))) now ≡ zeroed (tableNeed ts b (length before)) before
+  pub wits : length wit ≡ deskWitness
+  pub cells : front (tableOf t) b (length before) (remaining (tableOf t) q) now ≡ zeroed (tableNeed (tableOf t) b (length before)) before
 
-module _ (t : Record.Table) (h : Held t) (b : ℕ) (before : List ℕ) where
-  abbrev ts : Table
-  ts = tableOf t
+pub judged-none : {t : Table} → Held t → (b : ℕ) (before wit : List ℕ) → length wit ≡ deskWitness → {c : Counts} {q : Place} → c ≡ noCounts → q ≡ firstPlace
+    → JudgedSoFar t b before before wit c q
+judged-none {t} h b before wit w e f =
+    record {
+      so-far = so-far-none h b (length before) e f;
+      same = refl;
+      wits = w;
+      cells = ap (λ (qs : List Place). front (tableOf t) b (length before) qs before) (ap (remaining (tableOf t)) f ∙ remaining-first (tableOf t));
+    }
 
-  abbrev need : Place → ℕ
-  need = needAt ts b (length before)
+module _ {t : Table} {b : ℕ} {before now wit : List ℕ} {c : Counts} {q : Place} (k : JudgedSoFar t b before now wit c q) where
+  abbrev zeroes : List Place → List ℕ → List ℕ
+  zeroes qs cells = front (tableOf t) b (length before) qs cells
 
-  abbrev front : List Place → List ℕ → List ℕ
-  front qs cells = zeroed (largest (map need qs)) cells
+  pub judged-all : t .n ≤ q .task → TableCounted (tableOf t) b before c now
+  judged-all h =
+      record {
+        counts = so-far-all (k .so-far) h;
+        cells = sym (ap (λ (qs : List Place). zeroes qs now) (so-far-end (k .so-far) h)) ∙ k .cells;
+      }
 
-  pub judged-first : {c : Counts} {q : Place} → c ≡ noCounts → q ≡ firstPlace → JudgedSoFar ts b before before c q
-  judged-first e f =
-      rw (e, f)
-      (record {
-        reached = reached-first ts (h .sound);
-        counts = counted-first ts b (length before);
-        same = refl;
-        cells = ap (λ (qs : List Place). front qs before) (remaining-first ts);
-      })
+  module _ (h : q .task < t .n) where
+    abbrev said : Said.Verdict
+    said = judged (tableOf t) (q .task) (q .vertex) b (length now) (length wit)
 
-  module _ {now : List ℕ} {c : Counts} {q : Place} (k : JudgedSoFar ts b before now c q) where
-    pub judged-all : t .n ≤ q .task → TableCounted ts b before c now
-    judged-all m =
-        let none : length ts ≤ q .task = omega (arith, held-count t h) in
-        record { counts = counted-all ts b (length before) (k .counts) none; cells = sym (ap (λ (qs : List Place). front qs now) (remaining-none ts q none)) ∙ k .cells }
+    abbrev need : ℕ
+    need = workNeed (tableOf t) (q .task) (q .vertex)
 
-    module _ (m : q .task < t .n) where
-      l : q .task < length ts
-      l = omega (arith, held-count t h)
+    is-said : said ≡ verdictAt (tableOf t) b (length before) q
+    is-said = so-far-said (k .so-far) h (k .same) (k .wits)
 
-      pub judged-there : There ts q
-      judged-there = reached-there (k .reached) l
+    module _ {now′ wit′ : List ℕ} {r : Verdict} (a : Answered said need now wit r now′ wit′) where
+      zeroes-own : now′ ≡ zeroed (needAt (tableOf t) b (length before) q) now
+      zeroes-own = a .cells ∙ after-need said need now ∙ ap (λ (x : Said.Verdict). zeroed (needUnless x need) now) is-said
 
-      pub judged-few : total c < mostTasks * mostVertices
-      judged-few = counted-few ts b (length before) (k .counts) judged-there (h .sound)
+      pub judged-more : {m : Counts} {p : Place} → length now′ ≡ length now → length wit′ ≡ length wit → m ≡ oneMore c r → p ≡ nextIn (tableOf t) q
+          → JudgedSoFar t b before now′ wit′ m p
+      judged-more x y e f =
+          record {
+            so-far = so-far-more (k .so-far) h r (a .verdict ∙ ap numbers is-said) e f;
+            same = x ∙ k .same;
+            wits = y ∙ k .wits;
+            cells = ap (λ (p : Place). zeroes (remaining (tableOf t) p) now′) f ∙ on;
+          }
+        where
+          rest : List Place
+          rest = remaining (tableOf t) (nextIn (tableOf t) q)
 
-      pub judged-fewer : {q′ : Place} → q′ ≡ nextPlace ts q → length (remaining ts q′) < length (remaining ts q)
-      judged-fewer f = subst (λ (p : Place). length (remaining ts p) < length (remaining ts q)) (sym f) (reached-fewer (k .reached) l)
-
-      module _ (wit : List ℕ) (w : length wit ≡ deskWitness) where
-        said : verdictAt ts b (length before) q ≡ judged ts (q .task) (q .vertex) b (length now) (length wit)
-        said =
-            let p = reached-in (k .reached) l in
-            verdict-at ts b (length before) (length wit) q p (omega (arith, desk-witness ts (h .sound) q p)) ∙ ap (λ (n : ℕ). judged ts (q .task) (q .vertex) b n (length wit)) (sym (k .same))
-
-        module _ {now′ wit′ : List ℕ} {x : Verdict} (a : Answered (judged ts (q .task) (q .vertex) b (length now) (length wit)) (workNeed ts (q .task) (q .vertex)) now wit x now′ wit′) where
-          zeroes : now′ ≡ zeroed (need q) now
-          zeroes = a .cells ∙ ap (λ (y : Said.Verdict). workAfter y (workNeed ts (q .task) (q .vertex)) now) (sym said) ∙ after-need (verdictAt ts b (length before) q) (workNeed ts (q .task) (q .vertex)) now
-
-          pub judged-next : {c′ : Counts} {q′ : Place} → length now′ ≡ length now → c′ ≡ oneMore c x → q′ ≡ nextPlace ts q → JudgedSoFar ts b before now′ c′ q′
-          judged-next z e f =
-              rw (e, f)
-              (record {
-                reached = reached-next (k .reached) l (h .sound);
-                counts = counted-next ts b (length before) (k .counts) judged-there x (a .verdict ∙ ap numbers (sym said));
-                same = z ∙ k .same;
-                cells = ap (front rest) zeroes ∙ zeroed-twice (largest (map need rest)) (need q) now ∙ ap (λ (qs : List Place). front qs now) (sym (remaining-next ts q judged-there)) ∙ k .cells;
-              })
-            where
-              rest : List Place
-              rest = remaining ts (nextPlace ts q)
+          on : zeroes rest now′ ≡ zeroed (tableNeed (tableOf t) b (length before)) before
+          on =
+              ap (zeroes rest) zeroes-own
+              ∙ zeroed-twice (largest (map (needAt (tableOf t) b (length before)) rest)) (needAt (tableOf t) b (length before) q) now
+              ∙ ap (λ (qs : List Place). zeroes qs now) (sym (so-far-next (k .so-far) h))
+              ∙ k .cells

@@ -15,11 +15,12 @@ use Rattle.kinds.specs.declared.RefusedAt.{RefusedAt}
 use Rattle.kinds.specs.declared.Verdict.{Verdict}
 use Rattle.kinds.specs.declared.Verdict.the-variants.{Meets, Misses, Unfinished, Refused}
 use Rattle.kinds.specs.Numbers.{refusalNumber}
-use Rattle.judge.specs.declared.Counts.{Counts}
+use Rattle.counts.specs.declared.Counts.{Counts}
+use Rattle.counts.specs.Counts.{total}
 use Rattle.judge.specs.declared.TableVerdict.{TableVerdict}
 use Rattle.judge.specs.declared.TableVerdict.the-variants as Whole
 use Rattle.judge.specs.Judged.{Judged}
-use Rattle.judge.specs.Whole.{total, TableJudged}
+use Rattle.judge.specs.Whole.{TableJudged}
 use Rattle.judge.specs.Desk.{outputInto}
 
 -- "Any bytes, any vertex number, any budget and any lent areas get an answer. A bad table is refused at its first faulty line. A refusal changes

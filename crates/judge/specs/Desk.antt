@@ -4,13 +4,11 @@ use mathlib.Core.List.{List, []}
 use lib.ListN.{replicate}
 use lib.Dec.{ltb}
 use Rattle.meaning.specs.Lists.{pick, gather}
+use Rattle.meaning.specs.Bounds.{longestOutput}
 use Rattle.meaning.specs.Table.{Table}
 use Rattle.meaning.specs.Desk.{line, tableFrames, output}
 
--- room for any output: 96 vertices, each with its verdict's line of 17 bytes and seven path lines of at most 407, and the counts' line of 11
-abbrev pub longestOutput : ℕ
-longestOutput = 275147
-
+-- room for any output
 unfoldable pub noOutput : List ℕ
 noOutput = replicate longestOutput 0
 

@@ -1,64 +1,33 @@
 -- The vertices of a table one after the other, and how many have which verdict. Assumes nothing.
 use mathlib.Core.Path.{_≡_}
-use Prim.Native.Nat.{ℕ, _+_, _<_}
+use Prim.Native.Nat.{ℕ, _<_}
 use mathlib.Core.List.{List}
 use lib.ListN.{length}
-use lib.Dec.{ltb}
-use Rattle.meaning.specs.Lists.{pick}
 use Rattle.meaning.specs.Table.{Table, taskAt}
 use Rattle.meaning.specs.Text.{read}
 use Rattle.meaning.specs.Areas.{zeroed}
 use Rattle.meaning.specs.Whole as Meant
-use Rattle.kinds.specs.declared.Verdict.{Verdict}
-use Rattle.kinds.specs.declared.Verdict.the-variants.{Meets, Misses, Unfinished, Refused}
 use Rattle.kinds.specs.Numbers.{refusalNumber}
-use Rattle.judge.specs.declared.Counts.{Counts}
+use Rattle.counts.specs.declared.Counts.{Counts}
+use Rattle.counts.specs.Counts.{meantCounts}
+use Rattle.counts.specs.Place.{nextPlace}
 use Rattle.judge.specs.declared.TableVerdict.{TableVerdict}
 use Rattle.judge.specs.declared.TableVerdict.the-variants as Whole
-use Rattle.judge.specs.declared.places.Place.{Place}
 
 -- ---- the vertices, in rising order of task and then vertex
-
-abbrev pub meantPlace : Place → Meant.Place
-meantPlace at = record { task = at .task .0; vertex = at .vertex .0 }
-
-abbrev pub firstPlace : Meant.Place
-firstPlace = record { task = 0; vertex = 0 }
 
 -- how many vertices task i has
 abbrev pub size : Table → ℕ → ℕ
 size ts i = length (taskAt ts i .vertices)
 
 -- the task's next vertex, else the next task's first
-abbrev pub nextPlace : Table → Meant.Place → Meant.Place
-nextPlace ts q = pick (ltb (q .vertex + 1) (size ts (q .task))) (record { task = q .task; vertex = q .vertex + 1 }) (record { task = q .task + 1; vertex = 0 })
+abbrev pub nextIn : Table → Meant.Place → Meant.Place
+nextIn ts q = nextPlace (size ts (q .task)) q
 
 -- a vertex of the table
 pub record There (ts : Table) (q : Meant.Place) : Type 0 where
   pub task : q .task < length ts
   pub vertex : q .vertex < size ts (q .task)
-
--- ---- how many meet, miss, are unfinished and are refused
-
-abbrev pub meantCounts : Counts → Meant.Counts
-meantCounts c = record { meeting = c .meeting; missing = c .missing; unfinishing = c .unfinishing; refusing = c .refusing }
-
-abbrev pub noCounts : Counts
-noCounts = record { meeting = 0; missing = 0; unfinishing = 0; refusing = 0 }
-
--- all four together
-abbrev pub totalOf : Meant.Counts → ℕ
-totalOf n = n .meeting + n .missing + n .unfinishing + n .refusing
-
-abbrev pub total : Counts → ℕ
-total c = totalOf (meantCounts c)
-
--- one more of the verdict's kind
-abbrev pub oneMore : Counts → Verdict → Counts
-oneMore c (Meets count) = record { meeting = c .meeting + 1; missing = c .missing; unfinishing = c .unfinishing; refusing = c .refusing }
-oneMore c (Misses count cells) = record { meeting = c .meeting; missing = c .missing + 1; unfinishing = c .unfinishing; refusing = c .refusing }
-oneMore c (Unfinished budget) = record { meeting = c .meeting; missing = c .missing; unfinishing = c .unfinishing + 1; refusing = c .refusing }
-oneMore c (Refused at) = record { meeting = c .meeting; missing = c .missing; unfinishing = c .unfinishing; refusing = c .refusing + 1 }
 
 -- ---- judging a whole table
 

@@ -2,14 +2,14 @@
 // "Every public judging call takes the text itself, never a table record, and takes the reading apart first: a readable table goes on, anything else
 // returns at once."
 mod desk;
-mod four_counts;
-mod places;
 mod vertex;
 mod whole;
 
 use crate::desk::table_lines;
 use crate::vertex::judge_vertex;
 use crate::whole::count_verdicts;
+use bounds::LONGEST_OUTPUT;
+use counts::Counts;
 use desk_frames::refusal_line;
 use kinds::Refusal;
 use kinds::RefusedAt;
@@ -18,25 +18,16 @@ use kinds::Verdict;
 use kinds::VertexNumber;
 use reader::Status;
 use reader::read;
+use sheet::input_too_long;
+use sheet::no_such;
+use sheet::no_such_vertex;
 ghost use mathlib.Core.Path.{_≡_};
 ghost use lib.ListN.{length};
+ghost use Rattle.meaning.specs.Bounds.{longestOutput};
 ghost use Rattle.meaning.specs.Areas.{Wrote};
 ghost use Rattle.judge.specs.Judged.{Judged};
 ghost use Rattle.judge.specs.Whole.{TableJudged};
-ghost use Rattle.judge.specs.Desk.{longestOutput, noOutput, outputInto};
-
-// The longest input that is read as a text, and room for any output.
-const LONGEST_INPUT: usize = 8191;
-
-const LONGEST_OUTPUT: usize = 275147;
-
-// Of a table's vertices, at most 96 in all: how many meet, miss, are unfinished and are refused.
-pub struct Counts {
-    pub meeting: u8,
-    pub missing: u8,
-    pub unfinishing: u8,
-    pub refusing: u8,
-}
+ghost use Rattle.judge.specs.Desk.{noOutput, outputInto};
 
 // A table that is readable has its four counts.
 pub enum TableVerdict {
@@ -59,6 +50,14 @@ pub fn judge(
     let status = reading.status;
     let Status::Refused(at) = status else {
         let table = reading.table;
+        if no_such(task.0, table.n) {
+            return no_such_vertex();
+        }
+        let h = task.0 as usize;
+        let own = table.tasks[h];
+        if no_such(vertex.0, own.nv) {
+            return no_such_vertex();
+        }
         return judge_vertex(table, task, vertex, budget, work, witness);
     };
     Verdict::Refused(at)
@@ -94,7 +93,7 @@ pub fn desk_output(text: &[u8], out: &mut [u8]) -> usize
     if out.len() < LONGEST_OUTPUT {
         return 0;
     }
-    if LONGEST_INPUT < text.len() {
+    if input_too_long(text.len()) {
         let refusal = Refusal::InputTooLong;
         return refusal_line(out, 0, RefusedAt { refusal, place: 0 });
     }

@@ -1,71 +1,30 @@
-// One vertex under the tasks of higher priority: their stretches are filled, the groups walked, the needed cells cleared.
-use areas::above::Above;
-use areas::above::count_above;
-use areas::clear;
-use areas::stretches::fill_above;
-use areas::witness::write_witness;
-use kinds::Refusal;
-use kinds::RefusedAt;
+// "For a vertex judged under the tasks of higher priority": their paths are counted, their stretches filled, the groups walked, a miss's paths written.
+//
+// The three loops over the higher tasks stand here, where the table is, and a task at a time is handed on: handing a whole table to a function copies it.
+use areas::above::none_above;
+use areas::above::with_paths;
+use areas::stretches::fill_stretch;
+use areas::witness::write_place;
+use bounds::MOST_PATHS;
 use kinds::TaskNumber;
-use kinds::Ticks;
 use kinds::Verdict;
 use kinds::VertexNumber;
+use paths::path_count;
+use search::search;
+use sheet::AreaRows;
+use sheet::area_rows;
+use sheet::said;
+use sheet::too_many_paths;
 use table::Table;
 use walk::Ending;
-use walk::run;
-ghost use mathlib.Core.Path.{_≡_};
-ghost use Prim.Native.Nat.{_+_, _*_, _≤_, _<_};
 ghost use lib.ListN.{length};
-ghost use Rattle.meaning.specs.Bounds.{largestE};
-ghost use Rattle.meaning.specs.Table.{higher};
-ghost use Rattle.meaning.specs.Verdict.{walked};
 ghost use Rattle.meaning.specs.Areas.{workNeed};
 ghost use Rattle.meaning.specs.Judge.{judged};
 ghost use Rattle.table.specs.Record.{tableOf, Held};
-ghost use Rattle.areas.specs.Above.{pathCounts, Counted};
 ghost use Rattle.judge.specs.Judged.{Answered};
+ghost use Rattle.judge.specs.Whole.{There};
 
-// A job of e ticks and deadline d under the first h tasks, none of which has too many paths, with areas that suffice.
-pub(crate) fn walk_above(
-    t: Table,
-    above: Above,
-    h: usize,
-    e: Ticks,
-    d: Ticks,
-    budget: u32,
-    work: &mut [u32],
-    witness: &mut [u16],
-) -> Verdict
-    requires { ⌜ Held t × (h < t .n) × (e .0 ≤ largestE) × (0 < d .0) ⌝ }
-    requires { ⌜ Counted h (d .0) (pathCounts (higher (tableOf t) h) (d .0)) above × (h ≤ above .crowded) × (above .rows * d .0 ≤ length (now work)) × (h * (1 + d .0) ≤ length (now witness)) ⌝ }
-    ensures { λ r. ⌜ Answered (walked budget (higher (tableOf t) h) (e .0) (d .0)) (above .rows * d .0) (now (work .entry)) (now (witness .entry)) r (now (work .exit)) (now (witness .exit)) ⌝ }
-{
-    let roots = above.roots;
-    let counts = above.counts;
-    let ticks = d.0 as usize;
-    let need = above.rows * ticks;
-    fill_above(work, t, above, h, d);
-    let walked = run(&work[..need], &roots, &counts, h, ticks, e.0 as u32, budget);
-    clear(work, need);
-    let ending = walked.ending;
-    match ending {
-        Ending::Meets(count) => Verdict::Meets(count),
-        Ending::Unfinished(steps) => Verdict::Unfinished(steps),
-        Ending::Misses(count) => {
-            let places = walked.places;
-            let cells = write_witness(witness, t, places, h, d);
-            Verdict::Misses(count, cells as u32)
-        }
-    }
-}
-
-fn refused(refusal: Refusal, place: u32) -> Verdict
-    ensures { λ r. ⌜ r ≡ Verdict.Refused (record { refusal = refusal; place = place }) ⌝ }
-{
-    Verdict::Refused(RefusedAt { refusal, place })
-}
-
-// "After the text: 8, 9, 10, 11."
+// "After the text: 8, 9, 10, 11." A vertex of the table: 9 to 11, and then the walk.
 pub(crate) fn judge_vertex(
     t: Table,
     task: TaskNumber,
@@ -74,32 +33,51 @@ pub(crate) fn judge_vertex(
     work: &mut [u32],
     witness: &mut [u16],
 ) -> Verdict
-    requires { ⌜ Held t ⌝ }
+    requires { ⌜ Held t × There (tableOf t) (record { task = task .0; vertex = vertex .0 }) ⌝ }
     ensures { λ r. ⌜ Answered (judged (tableOf t) (task .0) (vertex .0) budget (length (now (work .entry))) (length (now (witness .entry)))) (workNeed (tableOf t) (task .0) (vertex .0)) (now (work .entry)) (now (witness .entry)) r (now (work .exit)) (now (witness .exit)) ⌝ }
 {
     let h = task.0 as usize;
-    if t.n <= h {
-        return refused(Refusal::NoSuchVertex, 0);
-    }
     let own = t.tasks[h];
-    let v = vertex.0 as usize;
-    if own.nv <= v {
-        return refused(Refusal::NoSuchVertex, 0);
+    let vertices = own.vertices;
+    let job = vertices[vertex.0 as usize];
+    let mut above = none_above();
+    let mut j: usize = 0;
+    while j < h {
+        let next = t.tasks[j];
+        let paths = path_count(next, job.d, MOST_PATHS + 1);
+        if MOST_PATHS < paths {
+            return too_many_paths(j);
+        }
+        above = with_paths(above, j, paths, job.d);
+        j += 1;
     }
-    let job = own.vertices[v];
-    let above = count_above(t, h, job.d);
-    let crowded = above.crowded;
-    if crowded < h {
-        return refused(Refusal::TooManyPaths, crowded as u32);
+    let rows = area_rows(above.rows, h, job.d, work.len(), witness.len());
+    if let AreaRows::Refused(at) = rows {
+        return Verdict::Refused(at);
     }
-    let d = job.d.0 as usize;
-    let need = above.rows * d;
-    let cells = h * (1 + d);
-    if work.len() < need {
-        return refused(Refusal::WorkTooShort, need as u32);
+    let mut k: usize = 0;
+    while k < h {
+        let next = t.tasks[k];
+        let from = above.roots[k];
+        let paths = above.counts[k];
+        fill_stretch(work, from, next, paths, job.d);
+        k += 1;
     }
-    if witness.len() < cells {
-        return refused(Refusal::WitnessTooShort, cells as u32);
+    let walked = search(work, above, h, job.e, job.d, budget);
+    let ending = walked.ending;
+    match ending {
+        Ending::Meets(_) => said(ending, 0),
+        Ending::Unfinished(_) => said(ending, 0),
+        Ending::Misses(_) => {
+            let places = walked.places;
+            let mut cells: usize = 0;
+            let mut i: usize = 0;
+            while i < h {
+                let next = t.tasks[i];
+                cells = write_place(witness, cells, next, job.d, places[i]);
+                i += 1;
+            }
+            said(ending, cells)
+        }
     }
-    walk_above(t, above, h, job.e, job.d, budget, work, witness)
 }

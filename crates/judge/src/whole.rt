@@ -1,11 +1,12 @@
 // "Judging a whole table [..] takes one budget, given afresh to each vertex, and returns how many meet, miss, are unfinished and are refused by 9 or 10.
 // [..] It takes no witness area."
-use crate::Counts;
-use crate::four_counts::counted;
-use crate::four_counts::no_counts;
-use crate::places::first_place;
-use crate::places::next_place;
 use crate::vertex::judge_vertex;
+use bounds::MOST_WITNESS;
+use counts::Counts;
+use counts::counted;
+use counts::no_counts;
+use counts::places::first_place;
+use counts::places::next_place;
 use table::Table;
 ghost use Rattle.table.specs.Record.{tableOf, Held};
 ghost use Rattle.judge.specs.Whole.{TableCounted};
@@ -15,7 +16,7 @@ pub(crate) fn count_verdicts(t: Table, budget: u32, work: &mut [u32]) -> Counts
     requires { ⌜ Held t ⌝ }
     ensures { λ r. ⌜ TableCounted (tableOf t) budget (now (work .entry)) r (now (work .exit)) ⌝ }
 {
-    let mut witness = [0u16; 1407];
+    let mut witness = [0u16; MOST_WITNESS];
     let mut counts = no_counts();
     let mut at = first_place();
     while (at.task.0 as usize) < t.n {
@@ -23,7 +24,8 @@ pub(crate) fn count_verdicts(t: Table, budget: u32, work: &mut [u32]) -> Counts
         let vertex = at.vertex;
         let verdict = judge_vertex(t, task, vertex, budget, work, &mut witness);
         counts = counted(counts, verdict);
-        at = next_place(t, at);
+        let own = t.tasks[task.0 as usize];
+        at = next_place(own.nv, at);
     }
     counts
 }

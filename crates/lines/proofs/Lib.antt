@@ -1,12 +1,6 @@
-pub mod Digits
-pub mod Spelled
-pub mod Expected
 pub mod Padded
 pub mod Reach
 pub mod Vertices
 pub mod Edges
-pub mod TaskOrEnd
 pub mod TaskRead
-pub mod Counting
-pub mod Answers
 pub mod Turns

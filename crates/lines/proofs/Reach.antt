@@ -8,7 +8,7 @@ use lib.Seq.{drop-drop}
 use Rattle.kinds.specs.declared.Refusal.{Refusal}
 use Rattle.lines.specs.declared.Outcome.{Outcome}
 use Rattle.lines.specs.declared.Outcome.the-variants.{AllTaken, StoppedBy}
-use Rattle.lines.specs.Frames.{partDigits, partBytes}
+use Rattle.frames.specs.Frames.{partDigits, partBytes}
 
 pub drop-part : (k : ℕ) (t : List ℕ) → drop (k * partBytes) (drop partBytes t) ≡ drop (suc k * partBytes) t
 drop-part k t =

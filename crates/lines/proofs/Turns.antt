@@ -9,18 +9,21 @@ use Rattle.meaning.specs.Bounds.{mostVertices, mostEdges}
 use Rattle.kinds.specs.declared.Refusal.{Refusal}
 use Rattle.table.specs.declared.Vertex.{Vertex}
 use Rattle.table.specs.declared.Edge.{Edge}
-use Rattle.table.specs.Record.{noVertex, noEdge}
-use Rattle.lines.specs.declared.VertexLine.{VertexLine}
-use Rattle.lines.specs.declared.VertexLine.the-variants.{VertexTaken, VertexRefused}
-use Rattle.lines.specs.declared.EdgeLine.{EdgeLine}
-use Rattle.lines.specs.declared.EdgeLine.the-variants.{EdgeTaken, EdgeRefused}
+use Rattle.table.specs.Record.{taskCells, noVertex, noEdge}
+use Rattle.frames.specs.declared.VertexLine.{VertexLine}
+use Rattle.frames.specs.declared.VertexLine.the-variants.{VertexTaken, VertexRefused}
+use Rattle.frames.specs.declared.EdgeLine.{EdgeLine}
+use Rattle.frames.specs.declared.EdgeLine.the-variants.{EdgeTaken, EdgeRefused}
 use Rattle.lines.specs.declared.Outcome.the-variants.{AllTaken, StoppedBy}
 use Rattle.lines.specs.declared.VertexLines.{VertexLines}
 use Rattle.lines.specs.declared.EdgeLines.{EdgeLines}
-use Rattle.lines.specs.Frames.{partBytes, vertexLine, edgePlace, edgeLine}
-use Rattle.lines.specs.Parts.{verticesOn, vertexLines, edgesOn, edgeLines, stoppedTask, taskLines}
-use Rattle.lines.proofs.Vertices.{vertex-long, vertices-reach}
-use Rattle.lines.proofs.Edges.{edge-has, edges-reach}
+use Rattle.frames.specs.Frames.{partBytes, vertexLine, edgeLine}
+use Rattle.rules.specs.Rules.{leastAfter}
+use Rattle.lines.specs.Parts.{tookVertices, tookEdges, tookTask, verticesOn, vertexLines, edgesOn, edgeLines, stoppedTask, taskLines}
+use Rattle.frames.proofs.VertexRead.{vertex-long}
+use Rattle.lines.proofs.Vertices.{vertices-reach}
+use Rattle.frames.proofs.EdgeRead.{edge-has}
+use Rattle.lines.proofs.Edges.{edges-reach}
 
 -- the part of a text that is lent from a place on
 abbrev pub lent : List ℕ → ℕ → List ℕ
@@ -31,76 +34,89 @@ lent-drop s at = take-all (length s - at) (drop at s) (omega (arith, length-drop
 
 -- ---- vertices
 
-pub vertices-begin : (v : Vertex) (n : ℕ) (t : List ℕ) → v ≡ noVertex → verticesOn 0 (replicate mostVertices v) (n - 0) t ≡ vertexLines n t
-vertices-begin v n t e =
+-- before a turn of the loop, at the line at `at`: i of n vertices are taken, and going on from here gives them all
+pub record VertexTurn (s : List ℕ) (from n : ℕ) (vs : List Vertex) (at i : ℕ) : Type 0 where
+  pub few : i ≤ n
+  pub inside : at ≤ length s
+  pub going : verticesOn i vs (n - i) (drop at s) ≡ vertexLines n (drop from s)
+
+pub vertices-first : (s : List ℕ) (from n : ℕ) (v : Vertex) → from ≤ length s → v ≡ noVertex → VertexTurn s from n (replicate mostVertices v) from 0
+vertices-first s from n v h e =
     let o : n - 0 ≡ n = omega arith in
-    rw (e, o)
+    record { few = omega arith; inside = h; going = rw (e, o) }
 
-pub vertices-end : (n i : ℕ) (vs : List Vertex) (t : List ℕ) → n ≤ i → record { outcome = AllTaken; count = i; vertices = vs } ≡ verticesOn i vs (n - i) t
-unfolding verticesOn
-vertices-end n i vs t h =
-    let o : n - i ≡ 0 = omega arith in
-    rw o
-
--- a turn of the loop: the line at `at` gives g, after i of n vertices
-pub record VertexTurn (s : List ℕ) (n i at : ℕ) (vs : List Vertex) (g : VertexLine) : Type 0 where
-  pub more : i < n
-  pub gives : g ≡ vertexLine (lent s at)
-
-module _ {s : List ℕ} {n i at : ℕ} {vs : List Vertex} {g : VertexLine} (turn : VertexTurn s n i at vs g) where
-  vertex-here : vertexLine (drop at s) ≡ g
-  vertex-here = sym (turn .gives ∙ ap vertexLine (lent-drop s at))
-
-  one-vertex : n - i ≡ suc (n - (i + 1))
-  one-vertex = omega (arith, turn .more)
-
-  pub vertices-stop : {w : Refusal} → g ≡ VertexRefused w → record { outcome = StoppedBy w; count = i; vertices = vs } ≡ verticesOn i vs (n - i) (drop at s)
+module _ {s : List ℕ} {from n : ℕ} {vs : List Vertex} {at i : ℕ} (turn : VertexTurn s from n vs at i) where
+  pub vertices-end : n ≤ i → tookVertices AllTaken i vs ≡ vertexLines n (drop from s)
   unfolding verticesOn
-  vertices-stop q = rw (one-vertex, vertex-here ∙ q)
+  vertices-end h =
+      let o : n - i ≡ 0 = omega arith in
+      rw (← turn .going, o)
 
-  pub vertices-more : {x : Vertex} → g ≡ VertexTaken x → verticesOn (i + 1) (set vs i x) (n - (i + 1)) (drop (at + partBytes) s) ≡ verticesOn i vs (n - i) (drop at s)
-  unfolding verticesOn
-  vertices-more q = rw (one-vertex, vertex-here ∙ q, drop-drop partBytes at s)
+  -- the line gives g
+  module _ {g : VertexLine} (more : i < n) (gives : g ≡ vertexLine (lent s at)) where
+    vertex-here : vertexLine (drop at s) ≡ g
+    vertex-here = sym (gives ∙ ap vertexLine (lent-drop s at))
 
-  pub vertex-fits : {x : Vertex} → g ≡ VertexTaken x → at + partBytes ≤ length s
-  vertex-fits {x} q = omega (arith, vertex-long (drop at s) x (vertex-here ∙ q), length-drop at s)
+    one-vertex : n - i ≡ suc (n - (i + 1))
+    one-vertex = omega arith
+
+    pub vertices-stop : {w : Refusal} → g ≡ VertexRefused w → tookVertices (StoppedBy w) i vs ≡ vertexLines n (drop from s)
+    unfolding verticesOn
+    vertices-stop q = rw (← turn .going, one-vertex, vertex-here ∙ q)
+
+    pub vertex-fits : {x : Vertex} → g ≡ VertexTaken x → at + partBytes ≤ length s
+    vertex-fits {x} q = omega (arith, vertex-long (drop at s) x (vertex-here ∙ q), length-drop at s)
+
+    pub vertices-more : {x : Vertex} → g ≡ VertexTaken x → VertexTurn s from n (set vs i x) (at + partBytes) (i + 1)
+    unfolding verticesOn
+    vertices-more {x} q =
+        let same : verticesOn (i + 1) (set vs i x) (n - (i + 1)) (drop (at + partBytes) s) ≡ verticesOn i vs (n - i) (drop at s) =
+        rw (one-vertex, vertex-here ∙ q, drop-drop partBytes at s) in
+        record { few = omega arith; inside = vertex-fits q; going = same ∙ turn .going }
 
 -- ---- edges
 
+-- before a turn of the loop, at the line at `at`: i of m edges are taken, and going on from here gives them all
+pub record EdgeTurn (n : ℕ) (vs : List Vertex) (s : List ℕ) (from m : ℕ) (es : List Edge) (least at i : ℕ) : Type 0 where
+  pub few : i ≤ m
+  pub inside : at ≤ length s
+  pub going : edgesOn n vs i es least (m - i) (drop at s) ≡ edgeLines n vs m (drop from s)
+
 module _ (n : ℕ) (vs : List Vertex) where
-  pub edges-begin : (v : Edge) (m : ℕ) (t : List ℕ) → v ≡ noEdge → edgesOn n vs 0 (replicate mostEdges v) 0 (m - 0) t ≡ edgeLines n vs m t
-  edges-begin v m t e =
+  pub edges-first : (s : List ℕ) (from m : ℕ) (v : Edge) → from ≤ length s → v ≡ noEdge → EdgeTurn n vs s from m (replicate mostEdges v) 0 from 0
+  edges-first s from m v h e =
       let o : m - 0 ≡ m = omega arith in
-      rw (e, o)
+      record { few = omega arith; inside = h; going = rw (e, o) }
 
-  pub edges-end : (m i : ℕ) (es : List Edge) (least : ℕ) (t : List ℕ) → m ≤ i → record { outcome = AllTaken; count = i; edges = es } ≡ edgesOn n vs i es least (m - i) t
+module _ {n : ℕ} {vs : List Vertex} {s : List ℕ} {from m : ℕ} {es : List Edge} {least at i : ℕ} (turn : EdgeTurn n vs s from m es least at i) where
+  pub edges-end : m ≤ i → tookEdges AllTaken i es ≡ edgeLines n vs m (drop from s)
   unfolding edgesOn
-  edges-end m i es least t h =
+  edges-end h =
       let o : m - i ≡ 0 = omega arith in
-      rw o
+      rw (← turn .going, o)
 
--- a turn of the loop: the line at `at` gives g, after i of m edges
-pub record EdgeTurn (n : ℕ) (vs : List Vertex) (s : List ℕ) (m i at : ℕ) (es : List Edge) (least : ℕ) (g : EdgeLine) : Type 0 where
-  pub more : i < m
-  pub gives : g ≡ edgeLine n vs least (lent s at)
+  -- the line gives g
+  module _ {g : EdgeLine} (more : i < m) (gives : g ≡ edgeLine n vs least (lent s at)) where
+    edge-here : edgeLine n vs least (drop at s) ≡ g
+    edge-here = sym (gives ∙ ap (edgeLine n vs least) (lent-drop s at))
 
-module _ {n : ℕ} {vs : List Vertex} {s : List ℕ} {m i at : ℕ} {es : List Edge} {least : ℕ} {g : EdgeLine} (turn : EdgeTurn n vs s m i at es least g) where
-  edge-here : edgeLine n vs least (drop at s) ≡ g
-  edge-here = sym (turn .gives ∙ ap (edgeLine n vs least) (lent-drop s at))
+    one-edge : m - i ≡ suc (m - (i + 1))
+    one-edge = omega arith
 
-  one-edge : m - i ≡ suc (m - (i + 1))
-  one-edge = omega (arith, turn .more)
+    pub edges-stop : {w : Refusal} → g ≡ EdgeRefused w → tookEdges (StoppedBy w) i es ≡ edgeLines n vs m (drop from s)
+    unfolding edgesOn
+    edges-stop q = rw (← turn .going, one-edge, edge-here ∙ q)
 
-  pub edges-stop : {w : Refusal} → g ≡ EdgeRefused w → record { outcome = StoppedBy w; count = i; edges = es } ≡ edgesOn n vs i es least (m - i) (drop at s)
-  unfolding edgesOn
-  edges-stop q = rw (one-edge, edge-here ∙ q)
+    pub edge-fits : {x : Edge} → g ≡ EdgeTaken x → at + partBytes ≤ length s
+    edge-fits {x} q = omega (arith, edge-has n vs least (drop at s) x (edge-here ∙ q) .long, length-drop at s)
 
-  pub edges-more : {x : Edge} → g ≡ EdgeTaken x → edgesOn n vs (i + 1) (set es i x) (edgePlace (x .from .0) (x .to .0) + 1) (m - (i + 1)) (drop (at + partBytes) s) ≡ edgesOn n vs i es least (m - i) (drop at s)
-  unfolding edgesOn
-  edges-more q = rw (one-edge, edge-here ∙ q, drop-drop partBytes at s)
-
-  pub edge-fits : {x : Edge} → g ≡ EdgeTaken x → at + partBytes ≤ length s
-  edge-fits {x} q = omega (arith, edge-has n vs least (drop at s) x (edge-here ∙ q) .long, length-drop at s)
+    pub edges-more : {x : Edge} {l : ℕ} → g ≡ EdgeTaken x → l ≡ leastAfter (x .from .0) (x .to .0)
+        → EdgeTurn n vs s from m (set es i x) l (at + partBytes) (i + 1)
+    unfolding edgesOn
+    edges-more {x} {l} q e =
+        let same : edgesOn n vs (i + 1) (set es i x) l (m - (i + 1)) (drop (at + partBytes) s) ≡ edgesOn n vs i es least (m - i) (drop at s) =
+        rw (e, one-edge, edge-here ∙ q, drop-drop partBytes at s) in
+        record { few = omega arith; inside = edge-fits q; going = same ∙ turn .going }
 
 -- ---- the lines of a task
 
@@ -127,12 +143,14 @@ module _ {s : List ℕ} {from v : ℕ} {a : VertexLines} (seen : VerticesSeen s 
 
 module _ {s : List ℕ} {from v e : ℕ} {a : VertexLines} {b : EdgeLines} (seen : EdgesSeen s from v e a b) where
   pub edges-few : b .count ≤ e
-  edges-few = subst (λ (y : EdgeLines). y .count ≤ e) (sym (seen .gives)) (omega (arith, edges-reach v (a .vertices) 0 (replicate mostEdges noEdge) 0 e (drop (from + v * partBytes) s) .few))
+  edges-few =
+      let reach = edges-reach v (a .vertices) 0 (replicate mostEdges noEdge) 0 e (drop (from + v * partBytes) s) in
+      subst (λ (y : EdgeLines). y .count ≤ e) (sym (seen .gives)) (omega (arith, reach .few))
 
   pub task-edge-stops : {w : Refusal} → b .outcome ≡ StoppedBy w → stoppedTask w (v + b .count) ≡ taskLines v e (drop from s)
   unfolding taskLines
   task-edge-stops y = rw (drop-drop (v * partBytes) from s, ← seen .vertices .gives, seen .all, ← seen .gives, y)
 
-  pub task-all : b .outcome ≡ AllTaken → record { outcome = AllTaken; count = v + e; task = record { nv = v; ne = e; vertices = a .vertices; edges = b .edges } } ≡ taskLines v e (drop from s)
+  pub task-all : b .outcome ≡ AllTaken → tookTask AllTaken (v + e) (taskCells v e (a .vertices) (b .edges)) ≡ taskLines v e (drop from s)
   unfolding taskLines
   task-all y = rw (drop-drop (v * partBytes) from s, ← seen .vertices .gives, seen .all, ← seen .gives, y)

@@ -1,28 +1,24 @@
-// "Lines are read from the first, and the first faulty line decides; within a line the order is 1 to 5."
+// "A task frame is followed by its vertices, numbered from 0, then its edges in strictly rising order of (from, to)."
 //
-// What a line gives, and what the lines of a task give. `specs/` says which of them each text has, by what must stand there;
-// `proofs/` shows that it is what document 01's line by line reading gives.
+// The lines of a task: those of its vertices, then those of its edges, each until the first that is refused.
+use bounds::MOST_EDGES;
+use bounds::MOST_VERTICES;
+use frames::EdgeLine;
+use frames::PART_BYTES;
+use frames::VertexLine;
+use frames::edge_line;
+use frames::vertex_line;
 use kinds::Refusal;
+use rules::least_after;
 use table::Edge;
 use table::Task;
 use table::Vertex;
-
-pub enum VertexLine {
-    VertexTaken(Vertex),
-    VertexRefused(Refusal),
-}
-
-pub enum EdgeLine {
-    EdgeTaken(Edge),
-    EdgeRefused(Refusal),
-}
-
-// After whole tasks: another task's frame with its counts of vertices and edges, or the end frame.
-pub enum TaskOrEndLine {
-    TaskTaken(usize, usize),
-    EndTaken,
-    FrameRefused(Refusal),
-}
+ghost use mathlib.Core.Path.{_≡_};
+ghost use Prim.Native.Nat.{_≤_};
+ghost use lib.ListN.{length, drop};
+ghost use Rattle.meaning.specs.Bounds.{mostVertices, mostEdges};
+ghost use Rattle.digits.specs.Digits.{Worths};
+ghost use Rattle.lines.specs.Parts.{vertexLines, edgeLines, stoppedTask, taskLines};
 
 // Whether all lines of a part were taken, or the refusal of the first that was not.
 pub enum Outcome {
@@ -34,13 +30,13 @@ pub enum Outcome {
 pub struct VertexLines {
     pub outcome: Outcome,
     pub count: usize,
-    pub vertices: [Vertex; 12],
+    pub vertices: [Vertex; MOST_VERTICES],
 }
 
 pub struct EdgeLines {
     pub outcome: Outcome,
     pub count: usize,
-    pub edges: [Edge; 32],
+    pub edges: [Edge; MOST_EDGES],
 }
 
 // The lines after a task's own: its vertices and its edges. No task where they stop.
@@ -48,4 +44,115 @@ pub struct TaskLines {
     pub outcome: Outcome,
     pub count: usize,
     pub task: Task,
+}
+
+// The lines of n vertices.
+pub(crate) fn read_vertices(w: &[u16; 256], text: &[u8], from: usize, n: usize) -> VertexLines
+    requires { ⌜ (from ≤ length (now text)) × (n ≤ mostVertices) × Worths (now w) ⌝ }
+    ensures { λ r. ⌜ r ≡ vertexLines n (drop from (now (text .entry))) ⌝ }
+{
+    let none = table::no_vertex();
+    let mut vertices = [none; MOST_VERTICES];
+    let mut at = from;
+    let mut i = 0;
+    while i < n {
+        let next = vertex_line(w, &text[at..]);
+        match next {
+            VertexLine::VertexRefused(refusal) => {
+                return VertexLines {
+                    outcome: Outcome::StoppedBy(refusal),
+                    count: i,
+                    vertices,
+                };
+            }
+            VertexLine::VertexTaken(x) => {
+                vertices[i] = x;
+                i += 1;
+                at += PART_BYTES;
+            }
+        }
+    }
+    VertexLines {
+        outcome: Outcome::AllTaken,
+        count: i,
+        vertices,
+    }
+}
+
+// The lines of m edges, in a task of n vertices.
+pub(crate) fn read_edges(
+    w: &[u16; 256],
+    text: &[u8],
+    from: usize,
+    n: usize,
+    vertices: [Vertex; MOST_VERTICES],
+    m: usize,
+) -> EdgeLines
+    requires { ⌜ (from ≤ length (now text)) × (n ≤ mostVertices) × (m ≤ mostEdges) × Worths (now w) ⌝ }
+    ensures { λ r. ⌜ r ≡ edgeLines n vertices m (drop from (now (text .entry))) ⌝ }
+{
+    let none = table::no_edge();
+    let mut edges = [none; MOST_EDGES];
+    let mut least = 0;
+    let mut at = from;
+    let mut i = 0;
+    while i < m {
+        let next = edge_line(w, &text[at..], n, vertices, least);
+        match next {
+            EdgeLine::EdgeRefused(refusal) => {
+                return EdgeLines {
+                    outcome: Outcome::StoppedBy(refusal),
+                    count: i,
+                    edges,
+                };
+            }
+            EdgeLine::EdgeTaken(x) => {
+                least = least_after(x.from.0, x.to.0);
+                edges[i] = x;
+                i += 1;
+                at += PART_BYTES;
+            }
+        }
+    }
+    EdgeLines {
+        outcome: Outcome::AllTaken,
+        count: i,
+        edges,
+    }
+}
+
+pub(crate) fn stopped(refusal: Refusal, count: usize) -> TaskLines
+    ensures { λ r. ⌜ r ≡ stoppedTask refusal count ⌝ }
+{
+    let task = table::no_task();
+    TaskLines {
+        outcome: Outcome::StoppedBy(refusal),
+        count,
+        task,
+    }
+}
+
+// The lines of v vertices and e edges.
+pub fn read_task(w: &[u16; 256], text: &[u8], from: usize, v: usize, e: usize) -> TaskLines
+    requires { ⌜ (from ≤ length (now text)) × (v ≤ mostVertices) × (e ≤ mostEdges) × Worths (now w) ⌝ }
+    ensures { λ r. ⌜ r ≡ taskLines v e (drop from (now (text .entry))) ⌝ }
+{
+    let a = read_vertices(w, text, from, v);
+    let first = a.outcome;
+    if let Outcome::StoppedBy(refusal) = first {
+        return stopped(refusal, a.count);
+    }
+    let vertices = a.vertices;
+    let b = read_edges(w, text, from + v * PART_BYTES, v, vertices, e);
+    let second = b.outcome;
+    if let Outcome::StoppedBy(refusal) = second {
+        return stopped(refusal, v + b.count);
+    }
+    let edges = b.edges;
+    let task = table::task_of(v, e, vertices, edges);
+    TaskLines {
+        outcome: Outcome::AllTaken,
+        count: v + e,
+        task,
+    }
 }

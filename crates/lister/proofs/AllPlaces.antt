@@ -9,11 +9,11 @@ use lib.ListN.{length, getD, take, drop, replicate, length-map, length-replicate
 use lib.Seq.{sets, sets-eq, length-sets, take-at, getD-append-add}
 use Rattle.meaning.specs.Bounds.{mostVertices, largestD}
 use Rattle.lister.specs.declared.place.Sought.{Sought}
-use Rattle.lister.specs.Columns.{SoundColumns}
-use Rattle.lister.specs.Ways.{ways, allWays, onBy, verticesOn, pathBy}
+use Rattle.columns.specs.Columns.{SoundColumns}
+use Rattle.ways.specs.Ways.{ways, allWays, onBy, verticesBy, pathBy}
 use Rattle.lister.specs.Place.{Found}
-use Rattle.lister.proofs.Taken.{way-short}
-use Rattle.lister.proofs.Ways.{all-ways-none, all-ways-more}
+use Rattle.ways.proofs.Taken.{way-short}
+use Rattle.ways.proofs.Ways.{all-ways-none, all-ways-more}
 use Rattle.lister.proofs.Places.{getD-onBy, true-false}
 
 -- the path's vertices stand in the first n cells
@@ -71,10 +71,10 @@ module _ {start to p : List ℕ} {n d i : ℕ} {cs : List ℕ} {left v : ℕ} (g
         sym (g .place) ∙ ap (λ (b : List (List ℕ)). getD b left []) (all-ways-more start to p d v n h)
         ∙ List·getD-append (onBy v (ways start to p v d)) (allWays start to p d (v + 1) n) [] left (omega (arith, on-len))
         ∙ getD-onBy v (ways start to p v d) left y in
-        let q : 0 + 1 + length H ≡ length (verticesOn to v H) = omega (arith, length-map H (λ (k : ℕ). getD to k 0)) in
+        let q : 0 + 1 + length H ≡ length (verticesBy to v H) = omega (arith, length-map H (λ (k : ℕ). getD to k 0)) in
         let l = way-short start to p so v d left (omega arith) hd y in
         let e = m .end in
-        let z : length (verticesOn to v H) ≤ largestD = omega arith in
+        let z : length (verticesBy to v H) ≤ largestD = omega arith in
         cells-at _ B (s .n) (m .cells ∙ ap₂ (λ (a b : List ℕ). sets a 0 (pathBy to b)) (g .cells) (sym w)) (e ∙ q ∙ ap (λ (b : List ℕ). length (pathBy to b)) (sym w))
         (subst (λ (b : List ℕ). length (pathBy to b) ≤ largestD) (sym w) z)
   ]

@@ -1,30 +1,18 @@
 -- A path by value, filled cell by cell. Assumes nothing.
 use mathlib.Core.Path.{_≡_, refl, sym, ap, ap₂, _∙_}
-use Prim.Native.Nat.{ℕ, zero, suc, _+_, _-_, _<_, _≤_}
+use Prim.Native.Nat.{ℕ, _+_, _<_, _≤_}
 use native.Mathlib.Numerals.{add-one}
 use native.Mathlib.Omega.{arith}
-use mathlib.Core.List.{List, [], _∷_, _++_, map}
+use mathlib.Core.List.{List, [], _∷_, map}
 use lib.ListN.{length, getD, take, set, replicate, length-map}
 use lib.Seq.{length-take-le, take-suc}
 use Rattle.kinds.specs.declared.VertexNumber.{VertexNumber}
 use Rattle.meaning.specs.Bounds.{largestD}
 use Rattle.meaning.proofs.Lists.{map-append}
 use Rattle.table.specs.Record.{padded, vertexNumber}
+use Rattle.table.proofs.Record.{padded-more}
 use Rattle.lister.specs.declared.Path.{Path}
 use Rattle.lister.specs.Place.{pathRecord}
-
--- the cell behind a list that is filled up
-pub padded-more : {X : Type 0} (n : ℕ) (z x : X) (xs : List X) → length xs < n → set (padded n z xs) (length xs) x ≡ padded n z (xs ++ (x ∷ []))
-unfolding padded
-padded-more zero z x xs h = absurd (omega arith)
-padded-more (suc n) z x [] h =
-    let e : suc n - 0 ≡ suc n = omega arith in
-    let f : suc n - 1 ≡ n = omega arith in
-    rw (e, f)
-padded-more {X} (suc n) z x (y ∷ xs) h =
-    let e : suc n - suc (length xs) ≡ n - length xs = omega arith in
-    let f : suc n - suc (length (xs ++ (x ∷ []))) ≡ n - length (xs ++ (x ∷ [])) = omega arith in
-    rw (e, f) (ap (λ (l : List X). y ∷ l) (padded-more n z x xs (omega arith)))
 
 -- the vertices of the first i cells
 abbrev pub verticesIn : List ℕ → ℕ → List VertexNumber
@@ -39,7 +27,7 @@ pub vertices-more : (cells : List ℕ) (i : ℕ) (vs : List VertexNumber) → le
 vertices-more cells i vs l h e =
     let n : length (map vertexNumber (take i cells)) ≡ i = length-map (take i cells) vertexNumber ∙ length-take-le i cells (omega arith) in
     ap₂ (λ (a : List VertexNumber) (j : ℕ). set a j (vertexNumber (getD cells i 0))) e (sym n)
-    ∙ padded-more largestD (vertexNumber 0) (vertexNumber (getD cells i 0)) (map vertexNumber (take i cells)) (omega arith)
+    ∙ padded-more largestD (vertexNumber 0) (map vertexNumber (take i cells)) (vertexNumber (getD cells i 0)) (omega arith)
     ∙ ap (padded largestD (vertexNumber 0)) (sym (map-append vertexNumber (take i cells) (getD cells i 0 ∷ [])) ∙ ap (map vertexNumber) (sym (take-suc cells i 0 (omega arith)) ∙ ap (λ (j : ℕ). take j cells) (sym (add-one i))))
 
 pub vertices-all : (cells : List ℕ) (i n : ℕ) (vs : List VertexNumber) → length cells ≡ largestD → n ≤ largestD → i ≡ n → vs ≡ verticesIn cells i

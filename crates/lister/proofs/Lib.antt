@@ -1,16 +1,4 @@
-pub mod Stores
-pub mod Ways
-pub mod Taken
-pub mod PutRows
-pub mod AllRows
+pub mod CountLoop
 pub mod Places
 pub mod AllPlaces
-pub mod PathsAreWays
-pub mod RowsAreLoads
-pub mod EdgeStarts
-pub mod TaskColumns
 pub mod ByValue
-pub mod Readiness
-pub mod Following
-pub mod CountLoop
-pub mod Listing

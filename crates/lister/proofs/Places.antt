@@ -10,11 +10,12 @@ use lib.ListN.{length, getD, set, length-map, List·getD-append}
 use lib.Seq.{sets, getD-append-add}
 use Rattle.meaning.specs.Bounds.{mostVertices}
 use Rattle.lister.specs.declared.place.Sought.{Sought}
-use Rattle.lister.specs.Columns.{SoundColumns}
-use Rattle.lister.specs.Ways.{ways, onBy, orStop, verticesOn}
+use Rattle.columns.specs.Columns.{SoundColumns}
+use Rattle.ways.specs.Ways.{ways, onBy, orStop, verticesBy}
+use Rattle.ways.proofs.Turns.{Turn, turn-first, turn-next}
 use Rattle.lister.specs.Place.{Found}
-use Rattle.lister.proofs.Stores.{set-sets}
-use Rattle.lister.proofs.Ways.{byEdges, step-no, step-yes, length-yes, by-edges-none, ways-step, orStop-some, length-zero}
+use Rattle.meaning.proofs.Stores.{set-sets}
+use Rattle.ways.proofs.Ways.{byEdges, step-no, step-yes, length-yes, by-edges-none, ways-step, orStop-some, length-zero}
 
 pub getD-onBy : (k : ℕ) (hs : List (List ℕ)) (i : ℕ) → i < length hs → getD (onBy k hs) i [] ≡ k ∷ getD hs i []
 getD-onBy k [] i h = absurd (omega arith)
@@ -24,17 +25,18 @@ getD-onBy k (x ∷ hs) (suc i) h = getD-onBy k hs i (omega arith)
 -- ---- the loop of `path_from`
 
 pub record Seeking (start to p : List ℕ) (v r i end : ℕ) (A cs : List ℕ) (k left : ℕ) : Type 0 where
-  pub low : getD start v 0 ≤ k
-  pub high : k ≤ end
+  pub turn : Turn start v end k
+  pub some : 0 < r
   pub fewer : left ≤ i
   pub count : left + length (byEdges start to p r (getD start v 0) end) ≡ i + length (byEdges start to p r k end)
   pub place : getD (byEdges start to p r k end) left [] ≡ getD (byEdges start to p r (getD start v 0) end) i []
   pub cells : cs ≡ A
 
-pub seeking-none : (start to p : List ℕ) (v r i end k : ℕ) (A : List ℕ) → k ≡ getD start v 0 → k ≤ end → Seeking start to p v r i end A A k i
-seeking-none start to p v r i end k A h l = record {
-  low = omega arith;
-  high = l;
+pub seeking-none : {start to p : List ℕ} → SoundColumns start to p → (v r i end k : ℕ) (A : List ℕ) → v < mostVertices → 0 < r
+    → end ≡ getD start (v + 1) 0 → k ≡ getD start v 0 → Seeking start to p v r i end A A k i
+seeking-none {start} {to} {p} so v r i end k A hv hr he h = record {
+  turn = turn-first so v end k hv he h;
+  some = hr;
   fewer = omega arith;
   count = ap (λ (m : ℕ). i + length (byEdges start to p r m end)) (sym h);
   place = ap (λ (m : ℕ). getD (byEdges start to p r m end) i []) h;
@@ -45,13 +47,15 @@ pub true-false : (b : Bool) → b ≡ true → b ≡ false → ⊥
 true-false b x y = let z : _≡_ {A = ℕ} 0 1 = cc in omega arith
 
 module _ {start to p : List ℕ} {v r i end : ℕ} {A cs : List ℕ} {k left : ℕ} (g : Seeking start to p v r i end A cs k left) where
+  step : SoundColumns start to p → ways start to p v r ≡ orStop (byEdges start to p r (getD start v 0) end)
+  step so = ways-step start to p so v r (g .turn .vertex) (g .some) ∙ ap (λ (m : ℕ). orStop (byEdges start to p r (getD start v 0) m)) (sym (g .turn .ends))
+
   pub seeking-skip : k < end → r ≤ getD p k 0 → Seeking start to p v r i end A cs (k + 1) left
   seeking-skip h l =
       let s = step-no start to p r k end h l in
-      let a = g .low in
       record {
-        low = omega arith;
-        high = omega arith;
+        turn = turn-next (g .turn) h;
+        some = g .some;
         fewer = g .fewer;
         count = g .count ∙ ap (λ (z : List (List ℕ)). i + length z) s;
         place = ap (λ (z : List (List ℕ)). getD z left []) (sym s) ∙ g .place;
@@ -75,13 +79,12 @@ module _ {start to p : List ℕ} {v r i end : ℕ} {A cs : List ℕ} {k left : �
           let m = f .miss (omega arith) in
           let ml = m .left in
           let c = g .count in
-          let a = g .low in
           let w = g .fewer in
           let sl = split-length in
           let z : left ≡ length (onBy k (ways start to p u (r - q))) + s .n = omega (arith, on-length) in
           record {
-            low = omega arith;
-            high = omega arith;
+            turn = turn-next (g .turn) h;
+            some = g .some;
             fewer = omega arith;
             count = omega arith;
             place = sym (ap₂ (λ (b : List (List ℕ)) (n : ℕ). getD b n []) split z ∙ getD-append-add (onBy k (ways start to p u (r - q))) (byEdges start to p r (k + 1) end) (s .n) []) ∙ g .place;
@@ -90,8 +93,8 @@ module _ {start to p : List ℕ} {v r i end : ℕ} {A cs : List ℕ} {k left : �
     ]
 
     pub seeking-found : (depth : ℕ) (B : List ℕ) (s : Sought) → Found start to p u (r - q) (depth + 1) left cs B s → s .found ≡ true
-        → SoundColumns start to p → v < mostVertices → 0 < r → end ≡ getD start (v + 1) 0 → Found start to p v r depth i A (set B depth v) s
-    seeking-found depth B s f yes' so hv hr he = elim (decLt left (length (ways start to p u (r - q)))) [
+        → SoundColumns start to p → Found start to p v r depth i A (set B depth v) s
+    seeking-found depth B s f yes' so = elim (decLt left (length (ways start to p u (r - q)))) [
       | no y ↦ absurd (true-false (s .found) yes' (f .miss (omega arith) .found))
       | yes y ↦
           let m = f .hit y in
@@ -100,8 +103,7 @@ module _ {start to p : List ℕ} {v r i end : ℕ} {A cs : List ℕ} {k left : �
           let me = m .end in
           let H = getD (ways start to p u (r - q)) left [] in
           let n : 0 < length (byEdges start to p r (getD start v 0) end) = omega arith in
-          let e : ways start to p v r ≡ byEdges start to p r (getD start v 0) end =
-          ways-step start to p so v r hv hr ∙ ap (λ (b : ℕ). orStop (byEdges start to p r (getD start v 0) b)) (sym he) ∙ orStop-some (byEdges start to p r (getD start v 0) end) n in
+          let e : ways start to p v r ≡ byEdges start to p r (getD start v 0) end = step so ∙ orStop-some (byEdges start to p r (getD start v 0) end) n in
           let el : length (ways start to p v r) ≡ length (byEdges start to p r (getD start v 0) end) = ap length e in
           let w : getD (ways start to p v r) i [] ≡ k ∷ H =
           ap (λ (b : List (List ℕ)). getD b i []) e ∙ sym (g .place) ∙ ap (λ (b : List (List ℕ)). getD b left []) split
@@ -111,33 +113,30 @@ module _ {start to p : List ℕ} {v r i end : ℕ} {A cs : List ℕ} {k left : �
             hit = λ x. record {
               found = yes';
               end = me ∙ (let z : depth + 1 + 1 + length H ≡ depth + 1 + suc (length H) = omega arith in z) ∙ ap (λ (b : List ℕ). depth + 1 + length b) (sym w);
-              cells = ap (λ (b : List ℕ). set b depth v) (m .cells ∙ ap₂ (λ (b : List ℕ) (n' : ℕ). sets b n' (verticesOn to u H)) (g .cells) (add-one depth))
-                  ∙ set-sets (verticesOn to u H) A (suc depth) depth v (omega arith)
+              cells = ap (λ (b : List ℕ). set b depth v) (m .cells ∙ ap₂ (λ (b : List ℕ) (n' : ℕ). sets b n' (verticesBy to u H)) (g .cells) (add-one depth))
+                  ∙ set-sets (verticesBy to u H) A (suc depth) depth v (omega arith)
                   ∙ ap (λ (b : ℕ). sets A depth (v ∷ (b ∷ map (λ (j : ℕ). getD to j 0) H))) eu
-                  ∙ ap (λ (b : List ℕ). sets A depth (verticesOn to v b)) (sym w);
+                  ∙ ap (λ (b : List ℕ). sets A depth (verticesBy to v b)) (sym w);
             };
             miss = λ x. absurd (omega arith);
           }
     ]
 
-  module _ (so : SoundColumns start to p) (hv : v < mostVertices) (hr : 0 < r) (he : end ≡ getD start (v + 1) 0) (hk : end ≤ k) where
+  module _ (so : SoundColumns start to p) (hk : end ≤ k) where
     total : left + length (byEdges start to p r (getD start v 0) end) ≡ i
     total = omega (arith, g .count, ap length (by-edges-none start to p r k end hk))
-
-    step : ways start to p v r ≡ orStop (byEdges start to p r (getD start v 0) end)
-    step = ways-step start to p so v r hv hr ∙ ap (λ (m : ℕ). orStop (byEdges start to p r (getD start v 0) m)) (sym he)
 
     pub past-some : (depth : ℕ) → (left ≡ i → ⊥) → Found start to p v r depth i A cs (record { found = false; n = left })
     past-some depth ne =
         let t = total in
-        let e : length (ways start to p v r) ≡ length (byEdges start to p r (getD start v 0) end) = ap length (step ∙ orStop-some (byEdges start to p r (getD start v 0) end) (omega arith)) in
+        let e : length (ways start to p v r) ≡ length (byEdges start to p r (getD start v 0) end) = ap length (step so ∙ orStop-some (byEdges start to p r (getD start v 0) end) (omega arith)) in
         record {
           hit = λ x. absurd (omega arith);
           miss = λ x. record { found = refl; left = omega arith; cells = g .cells };
         }
 
     alone : left ≡ i → ways start to p v r ≡ [] ∷ []
-    alone h = let t = total in step ∙ ap orStop (length-zero (byEdges start to p r (getD start v 0) end) (omega arith))
+    alone h = let t = total in step so ∙ ap orStop (length-zero (byEdges start to p r (getD start v 0) end) (omega arith))
 
     pub here : (depth : ℕ) → left ≡ i → i ≡ 0 → Found start to p v r depth i A (set cs depth v) (record { found = true; n = depth + 1 })
     here depth h z =
@@ -149,7 +148,7 @@ module _ {start to p : List ℕ} {v r i end : ℕ} {A cs : List ℕ} {k left : �
           hit = λ x. record {
             found = refl;
             end = y ∙ ap (λ (b : List ℕ). depth + 1 + length b) (sym w);
-            cells = ap (λ (b : List ℕ). set b depth v) (g .cells) ∙ ap (λ (b : List ℕ). sets A depth (verticesOn to v b)) (sym w);
+            cells = ap (λ (b : List ℕ). set b depth v) (g .cells) ∙ ap (λ (b : List ℕ). sets A depth (verticesBy to v b)) (sym w);
           };
           miss = λ x. absurd (omega arith);
         }

@@ -1,5 +1,2 @@
-pub mod Columns
-pub mod Ways
-pub mod Rows
 pub mod Place
 pub mod Follow

@@ -9,7 +9,7 @@ use Rattle.meaning.specs.Bounds.{largestD}
 use Rattle.table.specs.Record.{padded, vertexNumber}
 use Rattle.lister.specs.declared.Path.{Path}
 use Rattle.lister.specs.declared.place.Sought.{Sought}
-use Rattle.lister.specs.Ways.{ways, verticesOn}
+use Rattle.ways.specs.Ways.{ways, verticesBy}
 
 -- a path in an array of zeros, with its length
 unfoldable pub pathRecord : List ℕ → Path
@@ -21,7 +21,7 @@ pathRecord w = record { vertices = padded largestD (vertexNumber 0) (map vertexN
 pub record Hit (to : List ℕ) (v depth : ℕ) (h A B : List ℕ) (s : Sought) : Type 0 where
   pub found : s .found ≡ true
   pub end : s .n ≡ depth + 1 + length h
-  pub cells : B ≡ sets A depth (verticesOn to v h)
+  pub cells : B ≡ sets A depth (verticesBy to v h)
 
 pub record Miss (i m : ℕ) (A B : List ℕ) (s : Sought) : Type 0 where
   pub found : s .found ≡ false

@@ -1,19 +1,21 @@
 // How many complete paths there are, by recursion over the edges, which stops at the cap.
 use crate::follow::follow;
-use crate::numbers::index;
-use crate::numbers::separation;
+use bounds::MOST_EDGES;
+use bounds::MOST_VERTICES;
+use columns::numbers::index;
+use columns::numbers::separation;
 ghost use mathlib.Core.Path.{_≡_};
 ghost use Prim.Native.Nat.{_≤_, _<_, min};
 ghost use lib.ListN.{length};
 ghost use Rattle.meaning.specs.Bounds.{mostVertices};
-ghost use Rattle.lister.specs.Columns.{SoundColumns, mostCounted};
-ghost use Rattle.lister.specs.Ways.{ways, allWays};
+ghost use Rattle.columns.specs.Columns.{SoundColumns};
+ghost use Rattle.ways.specs.Ways.{mostCounted, ways, allWays};
 
 // How many complete paths go on from v with r ticks left, at most cap.
 fn count_from(
-    start: &[u8; 13],
-    to: &[u8; 32],
-    p: &[u16; 32],
+    start: &[u8; MOST_VERTICES + 1],
+    to: &[u8; MOST_EDGES],
+    p: &[u16; MOST_EDGES],
     v: usize,
     r: usize,
     cap: usize,
@@ -47,10 +49,10 @@ fn count_from(
 }
 
 // From every vertex, for horizon d.
-pub(crate) fn count_all(
-    start: &[u8; 13],
-    to: &[u8; 32],
-    p: &[u16; 32],
+pub fn count_all(
+    start: &[u8; MOST_VERTICES + 1],
+    to: &[u8; MOST_EDGES],
+    p: &[u16; MOST_EDGES],
     n: usize,
     d: usize,
     cap: usize,

@@ -1,15 +1,18 @@
 // "A path kept by value in an array of 200 zeros with a length, rebuilt from its place in the order."
 use crate::Path;
-use crate::numbers::index;
-use crate::numbers::separation;
+use bounds::LARGEST_D;
+use bounds::MOST_EDGES;
+use bounds::MOST_VERTICES;
+use columns::numbers::index;
+use columns::numbers::separation;
 use kinds::VertexNumber;
 ghost use mathlib.Core.Path.{_≡_};
 ghost use Prim.Native.Nat.{_+_, _≤_, _<_};
 ghost use mathlib.Core.List.{List};
 ghost use lib.ListN.{length, take, getD};
 ghost use Rattle.meaning.specs.Bounds.{mostVertices, largestD};
-ghost use Rattle.lister.specs.Columns.{SoundColumns, mostCounted};
-ghost use Rattle.lister.specs.Ways.{allWays, pathBy};
+ghost use Rattle.columns.specs.Columns.{SoundColumns};
+ghost use Rattle.ways.specs.Ways.{mostCounted, allWays, pathBy};
 ghost use Rattle.lister.specs.Place.{Found, pathRecord};
 
 // Found: n is the path's length. Not found: n of the places are still to pass.
@@ -20,10 +23,10 @@ struct Sought {
 
 // The path of place i of those that go on from v with r ticks left goes to the cells from depth on.
 fn path_from(
-    start: &[u8; 13],
-    to: &[u8; 32],
-    p: &[u16; 32],
-    cells: &mut [u8; 200],
+    start: &[u8; MOST_VERTICES + 1],
+    to: &[u8; MOST_EDGES],
+    p: &[u16; MOST_EDGES],
+    cells: &mut [u8; LARGEST_D],
     v: usize,
     r: usize,
     depth: usize,
@@ -70,11 +73,11 @@ fn path_from(
 }
 
 // The first cells as a path, with zeros behind it.
-fn by_value(cells: &[u8; 200], len: usize) -> Path
+fn by_value(cells: &[u8; LARGEST_D], len: usize) -> Path
     requires { ⌜ (len ≤ largestD) × (length (now cells) ≡ largestD) ⌝ }
     ensures { λ r. ⌜ r ≡ pathRecord (take len (now (cells .entry))) ⌝ }
 {
-    let mut vertices = [VertexNumber(0); 200];
+    let mut vertices = [VertexNumber(0); LARGEST_D];
     let mut i: usize = 0;
     while i < len {
         vertices[i] = VertexNumber(cells[i]);
@@ -87,10 +90,10 @@ fn by_value(cells: &[u8; 200], len: usize) -> Path
 }
 
 // The complete path of place i for horizon d; of length 0 where there is none.
-pub(crate) fn path_all(
-    start: &[u8; 13],
-    to: &[u8; 32],
-    p: &[u16; 32],
+pub fn path_all(
+    start: &[u8; MOST_VERTICES + 1],
+    to: &[u8; MOST_EDGES],
+    p: &[u16; MOST_EDGES],
     n: usize,
     d: usize,
     i: usize,
@@ -99,7 +102,7 @@ pub(crate) fn path_all(
     requires { ⌜ (n ≤ mostVertices) × (0 < d) × (d ≤ largestD) × (i ≤ mostCounted) ⌝ }
     ensures { λ r. ⌜ r ≡ pathRecord (pathBy (now (to .entry)) (getD (allWays (now (start .entry)) (now (to .entry)) (now (p .entry)) d 0 n) i List.[])) ⌝ }
 {
-    let mut cells = [0u8; 200];
+    let mut cells = [0u8; LARGEST_D];
     let mut left = i;
     let mut v: usize = 0;
     while v < n {

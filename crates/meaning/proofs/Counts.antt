@@ -1,6 +1,6 @@
 -- A whole table's four counts: they add up, and more budget never lowers the first two. Assumes nothing.
-use mathlib.Core.Path.{_≡_, refl, ap, ap₂, _∙_}
-use Prim.Native.Nat.{ℕ, zero, suc, _+_, _*_, _≤_, _<_}
+use mathlib.Core.Path.{_≡_, refl, ap₂, _∙_}
+use Prim.Native.Nat.{ℕ, suc, _+_, _*_, _≤_, _<_}
 use native.Mathlib.Nat.{le-refl}
 use native.Mathlib.Omega.{arith}
 use native.Mathlib.Decide.{decLt}
@@ -10,7 +10,7 @@ use mathlib.Core.List.{List, [], _∷_, map, List·Memᴰ·head, List·Memᴰ·t
 use lib.ListN.{length, length-map, length-append}
 use lib.Dec.{T, eqb, eqb→eq}
 use borrow.Author.Tests.{lt-ltb, le-ltb}
-use Rattle.meaning.specs.Lists.{pick, those, countFrom, below}
+use Rattle.meaning.specs.Lists.{pick, those, below}
 use Rattle.meaning.specs.Bounds.{mostTasks, mostVertices}
 use Rattle.meaning.specs.Table.{Task, Table, higher}
 use Rattle.meaning.specs.Groups.{count, witness}
@@ -19,25 +19,22 @@ use Rattle.meaning.specs.Judge.{Row, row9, row10, firstRow, unlessRefuse
 use Rattle.meaning.specs.Whole.{Place, placesFrom, places, verdictAt, verdicts, kindOf, ofKind, countsOf}
 use Rattle.meaning.specs.Sound.{AllSound, SoundTable}
 use Rattle.meaning.specs.Demands.{vertexTotal}
+use Rattle.meaning.proofs.Lists.{length-countFrom}
 
 -- ---- the four add up
 
-one-kind : (vs : List Verdict) → length (ofKind 0 vs) + length (ofKind 1 vs) + length (ofKind 2 vs) + length (ofKind 3 vs) ≡ length vs
+pub one-kind : (vs : List Verdict) → length (ofKind 0 vs) + length (ofKind 1 vs) + length (ofKind 2 vs) + length (ofKind 3 vs) ≡ length vs
 one-kind [] = refl
 one-kind (meets c ∷ vs) = omega (arith, one-kind vs)
 one-kind (misses c ws ∷ vs) = omega (arith, one-kind vs)
 one-kind (unfinished b ∷ vs) = omega (arith, one-kind vs)
 one-kind (refused k n ∷ vs) = omega (arith, one-kind vs)
 
-length-count : (a n : ℕ) → length (countFrom a n) ≡ n
-length-count a zero = refl
-length-count a (suc n) = ap suc (length-count (suc a) n)
-
 length-places : (i : ℕ) (ts : List Task) → length (placesFrom i ts) ≡ vertexTotal ts
 length-places i [] = refl
 length-places i (t ∷ ts) =
     length-append (map (λ (v : ℕ). record { task = i; vertex = v }) (below (length (t .vertices)))) (placesFrom (suc i) ts)
-    ∙ ap₂ _+_ (length-map (below (length (t .vertices))) _ ∙ length-count 0 (length (t .vertices))) (length-places (suc i) ts)
+    ∙ ap₂ _+_ (length-map (below (length (t .vertices))) _ ∙ length-countFrom 0 (length (t .vertices))) (length-places (suc i) ts)
 
 -- the four add up to the number of vertices
 pub counts-all : (ts : Table) (b work : ℕ) → (let n = countsOf (verdicts ts b work) in n .meeting + n .missing + n .unfinishing + n .refusing) ≡ vertexTotal ts

@@ -1,5 +1,6 @@
 pub mod Lists
 pub mod Wrote
+pub mod Stores
 pub mod Rising
 pub mod Edges
 pub mod Onward

@@ -1,5 +1,5 @@
 -- Laws of the words on lists: tests, members, sums, the largest. Assumes nothing.
-use mathlib.Core.Path.{_≡_, refl, sym, ap, subst, _∙_}
+use mathlib.Core.Path.{_≡_, refl, sym, ap, ap₂, subst, _∙_}
 use Prim.Native.Nat.{ℕ, zero, suc, _+_, _-_, _≤_, _<_}
 use native.Mathlib.Decide.{ℕ-discrete}
 use native.Mathlib.Nat.{sub-zero, zero-add}
@@ -125,6 +125,11 @@ module _ {X Y : Type 0} where
   map-append f [] ys = refl
   map-append f (x ∷ xs) ys = ap (λ (l : List Y). f x ∷ l) (map-append f xs ys)
 
+  -- two functions that agree on a list's members
+  pub map-mem : (f g : X → Y) (xs : List X) → ((x : X) → List·Memᴰ x xs → f x ≡ g x) → map f xs ≡ map g xs
+  map-mem f g [] h = refl
+  map-mem f g (x ∷ xs) h = ap₂ (λ (y : Y) (ys : List Y). y ∷ ys) (h x (List·Memᴰ·head refl)) (map-mem f g xs (λ z m. h z (List·Memᴰ·tail m)))
+
 -- ---- numbers
 
 pub sum-append : (xs ys : List ℕ) → sum (xs ++ ys) ≡ sum xs + sum ys
@@ -135,6 +140,10 @@ pub mem-largest : {x : ℕ} {xs : List ℕ} → List·Memᴰ x xs → x ≤ larg
 mem-largest (List·Memᴰ·head q) = omega arith
 mem-largest (List·Memᴰ·tail m) = omega (arith, mem-largest m)
 
+pub length-countFrom : (k n : ℕ) → length (countFrom k n) ≡ n
+length-countFrom k zero = refl
+length-countFrom k (suc n) = ap suc (length-countFrom (suc k) n)
+
 pub mem-countFrom : (k n v : ℕ) → k ≤ v → v < k + n → List·Memᴰ v (countFrom k n)
 mem-countFrom k zero v a b = absurd (omega arith)
 mem-countFrom k (suc n) v a b =
@@ -144,3 +153,15 @@ pub countFrom-mem : (k n v : ℕ) → List·Memᴰ v (countFrom k n) → (k ≤ 
 countFrom-mem k zero v m = absurd (List·Memᴰ·not-nil m)
 countFrom-mem k (suc n) v (List·Memᴰ·head q) = (omega arith, omega arith)
 countFrom-mem k (suc n) v (List·Memᴰ·tail m) = let r = countFrom-mem (suc k) n v m in (omega arith, omega arith)
+
+-- ---- parts of a mapped list
+
+pub take-map : {X Y : Type 0} (f : X → Y) (n : ℕ) (xs : List X) → take n (map f xs) ≡ map f (take n xs)
+take-map f zero xs = refl
+take-map f (suc n) [] = refl
+take-map f (suc n) (x ∷ xs) = ap (λ (z : List _). f x ∷ z) (take-map f n xs)
+
+pub drop-map : {X Y : Type 0} (f : X → Y) (n : ℕ) (xs : List X) → drop n (map f xs) ≡ map f (drop n xs)
+drop-map f zero xs = refl
+drop-map f (suc n) [] = refl
+drop-map f (suc n) (x ∷ xs) = drop-map f n xs

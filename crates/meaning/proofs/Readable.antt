@@ -10,16 +10,17 @@ use lib.ListN.{length, getD, length-append, List·getD-append}
 use lib.Dec.{T, ltb, leb, eqb, leb→le, ltb→lt, eqb→eq}
 use Rattle.meaning.specs.Lists.{pick, Rising}
 use Rattle.meaning.specs.Bounds.{mostTasks, mostVertices, mostEdges, largestE, largestD, largestP}
-use Rattle.meaning.specs.Table.{Vertex, Edge, Task, Table, noVertex}
-use Rattle.meaning.specs.Text.{Line, frameOf, Begun, nothing, Step, on, over, wrong, within, closed, afterLast, gate, taskFrame, vertexFrame, edgeFrame, Wanted, aVertex, anEdge, aTask, wantedBy, isFrame, word, framed, stepAt, Reading, readable, unreadable, atEnd, readFrom, read, linesOf}
+use Rattle.meaning.specs.Table.{Vertex, Edge, Task, Table, vertex, edge, task, noVertex}
+use Rattle.meaning.specs.Text.{Line, frameOf, Begun, begun, nothing, Step, on, over, wrong, within, closed, afterLast, gate, taskFrame, vertexFrame, edgeFrame, Wanted, aVertex, anEdge, aTask, wantedBy, isFrame, word, framed, stepAt, Reading, readable, unreadable, atEnd, mostLines, readFrom, read, linesOf}
 use Rattle.meaning.specs.Sound.{SoundVertex, SoundEdge, EdgeBefore, SoundTask, AllSound, SoundTable}
-use Rattle.meaning.specs.Demands.{TextRefused}
+use Rattle.meaning.specs.Demands.{TextRefused, lastLine}
 use Rattle.meaning.proofs.Lists.{both-left, both-right}
 use Rattle.meaning.proofs.Rising.{rising-one, rising-append}
 
 -- ---- one more at the end of a list
 
-each-snoc : {A : Type 0} {Q : A → Type 0} (xs : List A) (x : A) → ((y : A) → List·Memᴰ y xs → Q y) → Q x → (y : A) → List·Memᴰ y (xs ++ (x ∷ [])) → Q y
+each-snoc : {A : Type 0} {Q : A → Type 0} (xs : List A) (x : A) → ((y : A) → List·Memᴰ y xs → Q y) → Q x → (y : A) → List·Memᴰ y (xs ++ (x ∷ []))
+    → Q y
 each-snoc {A} {Q} xs x h q y m = go (List·Memᴰ·append-cases xs m)
   where
     go : List·Memᴰ y xs ⊎ List·Memᴰ y (x ∷ []) → Q y
@@ -49,7 +50,8 @@ before-trans x y z (inl a) (inr b) = inl (omega (arith, b .0))
 before-trans x y z (inr a) (inl b) = inl (omega (arith, a .0))
 before-trans x y z (inr a) (inr b) = inr (a .0 ∙ b .0, omega (arith, a .1, b .1))
 
-test-before : (a b c : Bool) (x y : Edge) → (T a → x .from < y .from) → (T b → x .from ≡ y .from) → (T c → x .to < y .to) → T (a || (b && c)) → EdgeBefore x y
+test-before : (a b c : Bool) (x y : Edge) → (T a → x .from < y .from) → (T b → x .from ≡ y .from) → (T c → x .to < y .to) → T (a || (b && c))
+    → EdgeBefore x y
 test-before true b c x y f g h t = inl (f tt)
 test-before false b c x y f g h t = inr (g (both-left b c t), h (both-right b c t))
 
@@ -57,7 +59,8 @@ after-all : (es : List Edge) (x : Edge) → Rising EdgeBefore es → T (afterLas
 after-all [] x r t y m = absurd (List·Memᴰ·not-nil m)
 after-all (z ∷ []) x r t y m =
     subst (λ (w : Edge). EdgeBefore w x) (sym (List·Memᴰ·eq-of-singleton m))
-    (test-before (ltb (z .from) (x .from)) (eqb (z .from) (x .from)) (ltb (z .to) (x .to)) z x (ltb→lt (z .from) (x .from)) (eqb→eq (z .from) (x .from)) (ltb→lt (z .to) (x .to)) t)
+    (test-before (ltb (z .from) (x .from)) (eqb (z .from) (x .from)) (ltb (z .to) (x .to)) z x
+    (ltb→lt (z .from) (x .from)) (eqb→eq (z .from) (x .from)) (ltb→lt (z .to) (x .to)) t)
 after-all (z ∷ w ∷ es) x r t y m = go (after-all (w ∷ es) x (r .1) t) (List·Memᴰ·cases-cons m)
   where
     go : ((v : Edge) → List·Memᴰ v (w ∷ es) → EdgeBefore v x) → (y ≡ z) ⊎ List·Memᴰ y (w ∷ es) → EdgeBefore y x
@@ -71,7 +74,7 @@ rising-snoc es x r t =
 
 -- ---- what holds before line n
 
-record Held (n : ℕ) (s : Begun) : Type 0 where
+record HeldSoFar (n : ℕ) (s : Begun) : Type 0 where
   tasks : AllSound (s .tasks)
   taskCount : length (s .tasks) < mostTasks
   vertexCount : length (s .vertices) + s .wantV ≤ mostVertices
@@ -80,17 +83,24 @@ record Held (n : ℕ) (s : Begun) : Type 0 where
   edges : (x : Edge) → List·Memᴰ x (s .edges) → SoundEdge (s .vertices) x
   rising : Rising EdgeBefore (s .edges)
   first : 1 ≤ n
-  -- 45 lines a whole task, then the open task's: it has a line of its own as soon as it has or wants a vertex
-  line : n ≤ 45 * length (s .tasks) + length (s .vertices) + length (s .edges) + 1 + min 1 (length (s .vertices) + s .wantV)
+  -- the whole tasks' lines, then the open task's: it has a line of its own as soon as it has or wants a vertex
+  line : n ≤ mostLines * length (s .tasks) + length (s .vertices) + length (s .edges) + 1 + min 1 (length (s .vertices) + s .wantV)
 
 record Number (k : ℕ) : Type 0 where
   low : 1 ≤ k
   high : k ≤ 5
 
+-- not allowed here, outside its bounds
+not-here : Number 2
+not-here = record { low = omega arith; high = omega arith }
+
+outside : Number 3
+outside = record { low = omega arith; high = omega arith }
+
 -- what a step at line n keeps
 abbrev Ok : ℕ → Step → Type 0
-Ok n (on s) = Held (suc n) s
-Ok n (over ts) = SoundTable ts × (n ≤ 361)
+Ok n (on s) = HeldSoFar (suc n) s
+Ok n (over ts) = SoundTable ts × (n < lastLine)
 Ok n (wrong k) = Number k
 
 gate-ok : (n : ℕ) (b : Bool) (k : ℕ) (s : Step) → Number k → (T b → Ok n s) → Ok n (gate b k s)
@@ -109,14 +119,14 @@ no-edges (x ∷ es) h = absurd (omega (arith, h x (List·Memᴰ·head refl) .fro
 
 record Closed (n : ℕ) (ts : Table) : Type 0 where
   sound : AllSound ts
-  line : n ≤ 45 * length ts + 1
+  line : n ≤ mostLines * length ts + 1
   count : length ts ≤ mostTasks
 
 module _ (n : ℕ) (ts : List Task) (es : List Edge) (v e : ℕ) where
-  abbrev begun : List Vertex → Begun
-  begun vs = record { tasks = ts; vertices = vs; edges = es; wantV = v; wantE = e }
+  abbrev reading : List Vertex → Begun
+  reading vs = begun ts (task vs es) v e
 
-  open-sound : (x : Vertex) (vs : List Vertex) → Held n (begun (x ∷ vs)) → SoundTask (record { vertices = x ∷ vs; edges = es })
+  open-sound : (x : Vertex) (vs : List Vertex) → HeldSoFar n (reading (x ∷ vs)) → SoundTask (task (x ∷ vs) es)
   open-sound x vs h =
       record {
         someVertex = omega arith;
@@ -127,10 +137,10 @@ module _ (n : ℕ) (ts : List Task) (es : List Edge) (v e : ℕ) where
         rising = h .rising;
       }
 
-  closed-held : (vs : List Vertex) → v ≡ 0 → Held n (begun vs) → Closed n (closed (begun vs))
+  closed-held : (vs : List Vertex) → v ≡ 0 → HeldSoFar n (reading vs) → Closed n (closed (reading vs))
   closed-held [] w h = record { sound = h .tasks; line = omega (arith, h .line, no-edges es (h .edges)); count = omega (arith, h .taskCount) }
   closed-held (x ∷ vs) w h =
-      let k : Task = record { vertices = x ∷ vs; edges = es } in
+      let k : Task = task (x ∷ vs) es in
       let more = length-snoc ts k in
       record {
         sound = each-snoc ts k (h .tasks) (open-sound x vs h);
@@ -142,7 +152,7 @@ module _ (n : ℕ) (ts : List Task) (es : List Edge) (v e : ℕ) where
 
 task-ok : (n : ℕ) (s : Begun) (v e : ℕ) → Closed n (closed s) → length (closed s) < mostTasks → Ok n (taskFrame s v e)
 task-ok n s v e c h =
-    gate-ok n (within 1 mostVertices v && leb e mostEdges) 3 (on (record { tasks = closed s; vertices = []; edges = []; wantV = v; wantE = e })) (record { low = omega arith; high = omega arith })
+    gate-ok n (within 1 mostVertices v && leb e mostEdges) 3 (on (begun (closed s) (task [] []) v e)) outside
     (λ t.
     let r = both-left (within 1 mostVertices v) (leb e mostEdges) t in
     let low = leb→le 1 v (both-left (leb 1 v) (leb v mostVertices) r) in
@@ -158,12 +168,12 @@ task-ok n s v e c h =
       line = omega (arith, c .line);
     })
 
-vertex-ok : (n : ℕ) (s : Begun) (e d : ℕ) → Held n s → 1 ≤ s .wantV → Ok n (vertexFrame s e d)
+vertex-ok : (n : ℕ) (s : Begun) (e d : ℕ) → HeldSoFar n s → 1 ≤ s .wantV → Ok n (vertexFrame s e d)
 vertex-ok n s e d h w =
-    let x : Vertex = record { e = e; d = d } in
+    let x : Vertex = vertex e d in
     let more = length-snoc (s .vertices) x in
     gate-ok n (within 1 largestE e && within 1 largestD d) 3
-    (on (record { tasks = s .tasks; vertices = s .vertices ++ (x ∷ []); edges = s .edges; wantV = s .wantV - 1; wantE = s .wantE })) (record { low = omega arith; high = omega arith })
+    (on (begun (s .tasks) (task (s .vertices ++ (x ∷ [])) (s .edges)) (s .wantV - 1) (s .wantE))) outside
     (λ t.
     let a = both-left (within 1 largestE e) (within 1 largestD d) t in
     let b = both-right (within 1 largestE e) (within 1 largestD d) t in
@@ -184,17 +194,17 @@ vertex-ok n s e d h w =
       line = omega (arith, h .line);
     })
 
-edge-ok : (n : ℕ) (s : Begun) (f t p : ℕ) → Held n s → s .wantV ≡ 0 → 1 ≤ s .wantE → Ok n (edgeFrame s f t p)
+edge-ok : (n : ℕ) (s : Begun) (f t p : ℕ) → HeldSoFar n s → s .wantV ≡ 0 → 1 ≤ s .wantE → Ok n (edgeFrame s f t p)
 edge-ok n s f t p h w m =
-    let x : Edge = record { from = f; to = t; p = p } in
+    let x : Edge = edge f t p in
     let more = length-snoc (s .edges) x in
     let vs = s .vertices in
-    let end : Step = on (record { tasks = s .tasks; vertices = vs; edges = s .edges ++ (x ∷ []); wantV = 0; wantE = s .wantE - 1 }) in
+    let end : Step = on (begun (s .tasks) (task vs (s .edges ++ (x ∷ []))) 0 (s .wantE - 1)) in
     let from = ltb f (length vs) in
     let to = ltb t (length vs) in
     let b4 = leb (getD vs f noVertex .d) p in
     let b5 = afterLast (s .edges) x in
-    gate-ok n (from && to && within 1 largestP p) 3 (gate b4 4 (gate b5 5 end)) (record { low = omega arith; high = omega arith })
+    gate-ok n (from && to && within 1 largestP p) 3 (gate b4 4 (gate b5 5 end)) outside
     (λ u. gate-ok n b4 4 (gate b5 5 end) (record { low = omega arith; high = omega arith })
     (λ v. gate-ok n b5 5 end (record { low = omega arith; high = omega arith })
     (λ r.
@@ -230,25 +240,24 @@ wants (suc v) e = omega arith
 wants zero (suc e) = (refl, omega arith)
 wants zero zero = refl
 
-not-here : Number 2
-not-here = record { low = omega arith; high = omega arith }
-
 over-ok : (n : ℕ) (ts : Table) → Closed n ts → 0 < length ts → Ok n (over ts)
 over-ok n ts c h = (record { someTask = h; taskCount = c .count; eachTask = c .sound }, omega (arith, c .line, c .count))
 
-framed-ok : (n : ℕ) (s : Begun) (w : Wanted) (f : List ℕ) → Held n s → Wants w (s .wantV) (s .wantE) → Ok n (framed s w f)
+framed-ok : (n : ℕ) (s : Begun) (w : Wanted) (f : List ℕ) → HeldSoFar n s → Wants w (s .wantV) (s .wantE) → Ok n (framed s w f)
 framed-ok n s aVertex f h w = pick-ok n (isFrame 2 5 f) (vertexFrame s (word f 1) (word f 3)) (wrong 2) (λ t. vertex-ok n s (word f 1) (word f 3) h w) not-here
 framed-ok n s anEdge f h w =
-    pick-ok n (isFrame 3 5 f) (edgeFrame s (getD f 1 0) (getD f 2 0) (word f 3)) (wrong 2) (λ t. edge-ok n s (getD f 1 0) (getD f 2 0) (word f 3) h (w .0) (w .1)) not-here
+    pick-ok n (isFrame 3 5 f) (edgeFrame s (getD f 1 0) (getD f 2 0) (word f 3)) (wrong 2)
+    (λ t. edge-ok n s (getD f 1 0) (getD f 2 0) (word f 3) h (w .0) (w .1)) not-here
 framed-ok n s aTask f h w =
     let c = closed-held n (s .tasks) (s .edges) (s .wantV) (s .wantE) (s .vertices) w h in
     let few = ltb (length (closed s)) mostTasks in
     let some = ltb 0 (length (closed s)) in
     pick-ok n (isFrame 1 3 f && few) (taskFrame s (getD f 1 0) (getD f 2 0)) (pick (isFrame 0 1 f && some) (over (closed s)) (wrong 2))
     (λ t. task-ok n s (getD f 1 0) (getD f 2 0) c (ltb→lt (length (closed s)) mostTasks (both-right (isFrame 1 3 f) few t)))
-    (pick-ok n (isFrame 0 1 f && some) (over (closed s)) (wrong 2) (λ t. over-ok n (closed s) c (ltb→lt 0 (length (closed s)) (both-right (isFrame 0 1 f) some t))) not-here)
+    (pick-ok n (isFrame 0 1 f && some) (over (closed s)) (wrong 2)
+    (λ t. over-ok n (closed s) c (ltb→lt 0 (length (closed s)) (both-right (isFrame 0 1 f) some t))) not-here)
 
-step-ok : (n : ℕ) (s : Begun) (o : Option (List ℕ)) → Held n s → Ok n (stepAt s o)
+step-ok : (n : ℕ) (s : Begun) (o : Option (List ℕ)) → HeldSoFar n s → Ok n (stepAt s o)
 step-ok n s none h = record { low = omega arith; high = omega arith }
 step-ok n s (some f) h = framed-ok n s (wantedBy (s .wantV) (s .wantE)) f h (wants (s .wantV) (s .wantE))
 
@@ -256,19 +265,20 @@ abbrev Good : Reading → Type 0
 Good (readable ts) = SoundTable ts
 Good (unreadable k n) = TextRefused k n
 
-at-end : (ts : Table) (n : ℕ) (ls : List Line) → SoundTable ts → n ≤ 361 → Good (atEnd ts (suc n) ls)
+at-end : (ts : Table) (n : ℕ) (ls : List Line) → SoundTable ts → n < lastLine → Good (atEnd ts (suc n) ls)
 at-end ts n [] s h = s
 at-end ts n (l ∷ ls) s h = record { low = omega arith; high = omega arith; first = omega arith; last = omega arith }
 
 -- a refusal at line n, before the end frame
-here : (n k : ℕ) (s : Begun) → Held n s → 1 ≤ k → k ≤ 7 → TextRefused k n
+here : (n k : ℕ) (s : Begun) → HeldSoFar n s → 1 ≤ k → k ≤ 7 → TextRefused k n
 here n k s h a b = record { low = a; high = b; first = h .first; last = omega (arith, h .line, h .taskCount, h .vertexCount, h .edgeCount) }
 
-from-good : (s : Begun) (n : ℕ) (ls : List Line) → Held n s → Good (readFrom s n ls)
+from-good : (s : Begun) (n : ℕ) (ls : List Line) → HeldSoFar n s → Good (readFrom s n ls)
 from-good s n [] h = here n 6 s h (omega arith) (omega arith)
 from-good s n (l ∷ ls) h = go (λ s′ k. from-good s′ (suc n) ls k) (stepAt s (frameOf l)) refl (step-ok n s (frameOf l) h)
   where
-    go : ((s′ : Begun) → Held (suc n) s′ → Good (readFrom s′ (suc n) ls)) → (r : Step) → stepAt s (frameOf l) ≡ r → Ok n r → Good (readFrom s n (l ∷ ls))
+    go : ((s′ : Begun) → HeldSoFar (suc n) s′ → Good (readFrom s′ (suc n) ls)) → (r : Step) → stepAt s (frameOf l) ≡ r → Ok n r
+        → Good (readFrom s n (l ∷ ls))
     go ih (on s′) e k = rw (e, readFrom) (ih s′ k)
     go ih (over ts) e k = rw (e, readFrom) (at-end ts n ls (k .0) (k .1))
     go ih (wrong m) e k = rw (e, readFrom) (here n m s h (k .low) (omega (arith, k .high)))

@@ -1,12 +1,15 @@
 -- Writing into a lent area, one run of cells after the other. Assumes nothing.
-use mathlib.Core.Path.{_≡_, refl, sym, ap, ap₂, _∙_}
-use Prim.Native.Nat.{ℕ, suc, _+_}
+use mathlib.Core.Path.{_≡_, refl, sym, ap, ap₂, subst, _∙_}
+use Prim.Native.Nat.{ℕ, suc, _+_, _≤_, _<_}
 use native.Mathlib.Nat.{add-zero}
+use native.Mathlib.Numerals.{add-one}
 use native.Mathlib.Omega.{arith}
-use mathlib.Core.List.{List, [], _∷_, _++_}
-use lib.ListN.{length, set, length-append}
-use lib.Seq.{sets, length-sets}
-use Rattle.meaning.specs.Areas.{Wrote}
+use mathlib.Core.List.{List, [], _∷_, _++_, append-nil}
+use lib.ListN.{length, set, take, drop, getD, length-append}
+use lib.Seq.{sets, length-sets, sets-eq, take-suc, take-all}
+use Rattle.meaning.specs.Lists.{gather}
+use Rattle.meaning.specs.Areas.{Wrote, written}
+use Rattle.meaning.proofs.Lists.{gather-append}
 
 -- one run of stores and then another
 pub sets-append : (l : List ℕ) (i : ℕ) (xs ys : List ℕ) → sets l i (xs ++ ys) ≡ sets (sets l i xs) (i + length xs) ys
@@ -27,3 +30,35 @@ wrote-then xs ys {out} {mid} {after} {at} {next} {last} a b =
 
 pub wrote-length : {xs out after : List ℕ} {at next : ℕ} → Wrote xs out at after next → length after ≡ length out
 wrote-length {xs} {out} {at} w = ap length (w .cells) ∙ length-sets out at xs
+
+-- stores from the front on
+pub front-set : (xs l : List ℕ) → length xs ≤ length l → sets l 0 xs ≡ written xs l
+front-set xs l h = let e : 0 + length xs ≡ length xs = omega arith in sets-eq xs l 0 (omega arith) ∙ ap (λ (n : ℕ). xs ++ drop n l) e
+
+-- ---- what f gives at each element of a list, one after the other: after j of them
+
+module _ {X : Type 0} (f : X → List ℕ) (xs : List X) where
+  pub record Gathering (before : List ℕ) (from : ℕ) (now : List ℕ) (at j : ℕ) : Type 0 where
+    pub low : j ≤ length xs
+    pub same : length now ≡ length before
+    pub wrote : Wrote (gather f (take j xs)) before from now at
+
+  pub gathering-none : (before : List ℕ) (from : ℕ) → Gathering before from before from 0
+  gathering-none before from = record { low = omega arith; same = refl; wrote = wrote-none before from }
+
+  pub gathering-more : {before now after : List ℕ} {from at next j : ℕ} (z : X) → Gathering before from now at j → j < length xs → Wrote (f (getD xs j z)) now at after next
+      → Gathering before from after next (j + 1)
+  gathering-more {before} {now} {after} {from} {at} {next} {j} z g h w =
+      record {
+        low = omega arith;
+        same = wrote-length w ∙ g .same;
+        wrote = subst (λ (cells : List ℕ). Wrote cells before from after next) (sym more) (wrote-then (gather f (take j xs)) (f (getD xs j z)) (g .wrote) w);
+      }
+    where
+      more : gather f (take (j + 1) xs) ≡ gather f (take j xs) ++ f (getD xs j z)
+      more =
+          rw (add-one j, take-suc xs j z h)
+          (gather-append f (take j xs) (getD xs j z ∷ []) ∙ ap (λ (ys : List ℕ). gather f (take j xs) ++ ys) (append-nil (f (getD xs j z))))
+
+  pub gathering-all : {before now : List ℕ} {from at j : ℕ} → Gathering before from now at j → length xs ≤ j → Wrote (gather f xs) before from now at
+  gathering-all {before} {now} {from} {at} {j} g h = subst (λ (ys : List X). Wrote (gather f ys) before from now at) (take-all j xs h) (g .wrote)

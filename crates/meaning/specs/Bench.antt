@@ -7,7 +7,7 @@ use mathlib.Core.List.{List, [], _∷_, _++_}
 use lib.Dec.{T, eqb}
 use Rattle.meaning.specs.Lists.{all}
 use Rattle.meaning.specs.Bounds.{deskBudget, deskWork, deskWitness}
-use Rattle.meaning.specs.Table.{Vertex, Edge, Task, Table}
+use Rattle.meaning.specs.Table.{Task, Table, vertex, edge, task}
 use Rattle.meaning.specs.Paths.{completePaths}
 use Rattle.meaning.specs.Verdict.{Verdict, meets, misses, unfinished, refused, numbers, cellsOf}
 use Rattle.meaning.specs.Judge.{judged}
@@ -33,15 +33,6 @@ abbrev pub right : Example → Bool
 right x = same (x .got) (x .said)
 
 -- ---- tables
-
-abbrev pub vertex : ℕ → ℕ → Vertex
-vertex e d = record { e = e; d = d }
-
-abbrev pub edge : ℕ → ℕ → ℕ → Edge
-edge from to p = record { from = from; to = to; p = p }
-
-abbrev pub task : List Vertex → List Edge → Task
-task vs es = record { vertices = vs; edges = es }
 
 abbrev pub selfEdge : ℕ → ℕ → ℕ → Task
 selfEdge e d p = task (vertex e d ∷ []) (edge 0 0 p ∷ [])

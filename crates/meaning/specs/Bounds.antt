@@ -1,5 +1,5 @@
 -- Every number that document 01 sets, once. Assumes nothing.
-use Prim.Native.Nat.{ℕ}
+use Prim.Native.Nat.{ℕ, _+_, _-_, _*_}
 
 -- ---- a table
 
@@ -24,6 +24,10 @@ largestP = 1000
 
 -- ---- judging
 
+-- a vertex has at most so many higher tasks
+abbrev pub mostHigher : ℕ
+mostHigher = mostTasks - 1
+
 -- a higher task may have so many complete paths
 abbrev pub mostPaths : ℕ
 mostPaths = 64
@@ -36,8 +40,42 @@ longestInput = 8191
 abbrev pub deskWork : ℕ
 deskWork = 8192
 
+-- as many as any vertex needs
 abbrev pub deskWitness : ℕ
-deskWitness = 1407
+deskWitness = mostHigher * (1 + largestD)
 
 abbrev pub deskBudget : ℕ
 deskBudget = 100000
+
+-- ---- the desk's output, in bytes
+
+-- the line of a frame of n bytes: two digits each, and the line feed
+abbrev pub lineLength : ℕ → ℕ
+lineLength n = 2 * n + 1
+
+-- 10, task, vertex, verdict, 4 bytes count
+abbrev pub verdictLine : ℕ
+verdictLine = lineLength 8
+
+-- 1f and the four counts
+abbrev pub countsLine : ℕ
+countsLine = lineLength 5
+
+-- 1e, number, line in 2 bytes
+abbrev pub refusalLine : ℕ
+refusalLine = lineLength 4
+
+-- 11, task, length and n vertices
+abbrev pub pathLine : ℕ → ℕ
+pathLine n = lineLength (3 + n)
+
+abbrev pub longestPathLine : ℕ
+longestPathLine = pathLine largestD
+
+-- a vertex's verdict, and a path for each higher task
+abbrev pub longestVertex : ℕ
+longestVertex = verdictLine + mostHigher * longestPathLine
+
+-- every vertex, then the counts
+abbrev pub longestOutput : ℕ
+longestOutput = mostTasks * mostVertices * longestVertex + countsLine

@@ -7,6 +7,8 @@ use mathlib.Core.Option.{none}
 use mathlib.Core.List.{List, [], _∷_, _++_, map, List·Memᴰ}
 use lib.ListN.{length}
 use lib.Dec.{T}
+use Rattle.meaning.specs.Bounds.{mostTasks}
+use Rattle.meaning.specs.Text.{mostLines}
 use Rattle.meaning.specs.Lists.{sum, product, Rising}
 use Rattle.meaning.specs.Table.{Task, Table, higher}
 use Rattle.meaning.specs.Paths.{Path, legal, complete, load, completePaths, pathsOf, Before}
@@ -144,7 +146,7 @@ pub record FourCounts (ts : Table) (work : ℕ) : Type 0 where
 
 -- the last line that a refusal can name: eight whole tasks, the end frame, and the line after it
 abbrev pub lastLine : ℕ
-lastLine = 362
+lastLine = mostTasks * mostLines + 2
 
 pub record TextRefused (k n : ℕ) : Type 0 where
   pub low : 1 ≤ k

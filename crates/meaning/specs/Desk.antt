@@ -40,9 +40,13 @@ line f = gather digits f ++ (lineFeed ∷ [])
 abbrev pub verdictFrame : Place → ℕ → ℕ → List ℕ
 verdictFrame q kind n = 16 ∷ q .task ∷ q .vertex ∷ kind ∷ four n
 
+-- 11, task, length
+abbrev pub pathHead : ℕ → ℕ → List ℕ
+pathHead i n = 17 ∷ i ∷ n ∷ []
+
 -- 11, task, length, vertices
 abbrev pub pathFrame : ℕ → Path → List ℕ
-pathFrame i w = 17 ∷ i ∷ length w ∷ w
+pathFrame i w = pathHead i (length w) ++ w
 
 -- one a higher task, from task i on
 abbrev pub pathFrames : ℕ → List Path → List (List ℕ)

@@ -21,13 +21,24 @@ pub record Task : Type 0 where
 abbrev pub Table : Type 0
 Table = List Task
 
+-- ---- each from its parts
+
+abbrev pub vertex : ℕ → ℕ → Vertex
+vertex e d = record { e = e; d = d }
+
+abbrev pub edge : ℕ → ℕ → ℕ → Edge
+edge from to p = record { from = from; to = to; p = p }
+
+abbrev pub task : List Vertex → List Edge → Task
+task vs es = record { vertices = vs; edges = es }
+
 -- ---- by number
 
 abbrev pub noVertex : Vertex
-noVertex = record { e = 0; d = 0 }
+noVertex = vertex 0 0
 
 abbrev pub noTask : Task
-noTask = record { vertices = []; edges = [] }
+noTask = task [] []
 
 abbrev pub vertexAt : Task → ℕ → Vertex
 vertexAt k v = getD (k .vertices) v noVertex

@@ -8,7 +8,7 @@ use lib.ListN.{length, getD}
 use lib.Dec.{leb, ltb, eqb}
 use Rattle.meaning.specs.Lists.{pick}
 use Rattle.meaning.specs.Bounds.{mostTasks, mostVertices, mostEdges, largestE, largestD, largestP}
-use Rattle.meaning.specs.Table.{Vertex, Edge, Task, Table, noVertex}
+use Rattle.meaning.specs.Table.{Vertex, Edge, Task, Table, vertex, edge, task, noVertex}
 
 -- ---- lines
 
@@ -73,12 +73,16 @@ pub record Begun : Type 0 where
   pub wantV : ℕ
   pub wantE : ℕ
 
+-- the tasks ts, then as much of the task k, and its wants
+abbrev pub begun : List Task → Task → ℕ → ℕ → Begun
+begun ts k v e = record { tasks = ts; vertices = k .vertices; edges = k .edges; wantV = v; wantE = e }
+
 abbrev pub nothing : Begun
-nothing = record { tasks = []; vertices = []; edges = []; wantV = 0; wantE = 0 }
+nothing = begun [] (task [] []) 0 0
 
 -- all tasks, with the one that was just read to its end
 abbrev pub closed : Begun → List Task
-closed s = elim (s .vertices) [ [] ↦ s .tasks | v ∷ vs ↦ s .tasks ++ (record { vertices = s .vertices; edges = s .edges } ∷ []) ]
+closed s = elim (s .vertices) [ [] ↦ s .tasks | v ∷ vs ↦ s .tasks ++ (task (s .vertices) (s .edges) ∷ []) ]
 
 -- a line is read and the text goes on, or it was the end frame, or it is refused with a number
 pub data Step : Type 0 where
@@ -97,18 +101,12 @@ within low high n = leb low n && leb n high
 abbrev pub taskFrame : Begun → ℕ → ℕ → Step
 taskFrame s nv ne =
     gate (within 1 mostVertices nv && leb ne mostEdges) 3
-    (on (record { tasks = closed s; vertices = []; edges = []; wantV = nv; wantE = ne }))
+    (on (begun (closed s) (task [] []) nv ne))
 
 abbrev pub vertexFrame : Begun → ℕ → ℕ → Step
 vertexFrame s e d =
     gate (within 1 largestE e && within 1 largestD d) 3
-    (on (record {
-      tasks = s .tasks;
-      vertices = s .vertices ++ (record { e = e; d = d } ∷ []);
-      edges = s .edges;
-      wantV = s .wantV - 1;
-      wantE = s .wantE;
-    }))
+    (on (begun (s .tasks) (task (s .vertices ++ (vertex e d ∷ [])) (s .edges)) (s .wantV - 1) (s .wantE)))
 
 -- strictly rising order of (from, to): an edge stands after the one before it in its task
 abbrev pub afterLast : List Edge → Edge → Bool
@@ -120,14 +118,8 @@ abbrev pub edgeFrame : Begun → ℕ → ℕ → ℕ → Step
 edgeFrame s from to p =
     gate (ltb from (length (s .vertices)) && ltb to (length (s .vertices)) && within 1 largestP p) 3
     (gate (leb (getD (s .vertices) from noVertex .d) p) 4
-    (gate (afterLast (s .edges) (record { from = from; to = to; p = p })) 5
-    (on (record {
-      tasks = s .tasks;
-      vertices = s .vertices;
-      edges = s .edges ++ (record { from = from; to = to; p = p } ∷ []);
-      wantV = 0;
-      wantE = s .wantE - 1;
-    }))))
+    (gate (afterLast (s .edges) (edge from to p)) 5
+    (on (begun (s .tasks) (task (s .vertices) (s .edges ++ (edge from to p ∷ []))) 0 (s .wantE - 1)))))
 
 -- a task frame is followed by its vertices, then its edges; then another task or the end
 pub data Wanted : Type 0 where
@@ -150,6 +142,10 @@ stepAt s none = wrong 1
 stepAt s (some f) = framed s (wantedBy (s .wantV) (s .wantE)) f
 
 -- ---- the whole text: the first faulty line decides
+
+-- a whole task has at most so many lines: its own, its vertices' and its edges'
+abbrev pub mostLines : ℕ
+mostLines = 1 + mostVertices + mostEdges
 
 pub data Reading : Type 0 where
   readable : Table → Reading

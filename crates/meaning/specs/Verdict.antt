@@ -16,9 +16,13 @@ pub data Verdict : Type 0 where
   unfinished : ℕ → Verdict
   refused : ℕ → ℕ → Verdict
 
+-- the path's length and vertices
+abbrev pub pathCell : Path → List ℕ
+pathCell w = length w ∷ w
+
 -- per higher task in order, the path's length and vertices
 abbrev pub cellsOf : List Path → List ℕ
-cellsOf ws = gather (λ (w : Path). length w ∷ w) ws
+cellsOf ws = gather pathCell ws
 
 -- a verdict in numbers: the desk's 0 to 3, then its values; a miss counts the cells written
 abbrev pub numbers : Verdict → List ℕ

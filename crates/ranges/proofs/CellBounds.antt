@@ -1,6 +1,6 @@
 -- How many cells a task's stretch has, and how large they are. Assumes nothing.
 use mathlib.Core.Path.{_≡_, _∙_}
-use Prim.Native.Nat.{ℕ, zero, suc, _+_, _-_, _*_, _≤_, _<_, zero-le}
+use Prim.Native.Nat.{ℕ, zero, suc, _+_, _*_, _≤_, _<_, zero-le}
 use native.Mathlib.Nat.{le-trans, mul-le-mul-right}
 use native.Mathlib.Omega.{arith}
 use mathlib.Core.Bool.{Bool, true, false}
@@ -12,14 +12,14 @@ use Rattle.meaning.specs.Bounds.{largestE, largestD, mostPaths}
 use Rattle.meaning.specs.Table.{Task}
 use Rattle.meaning.specs.Paths.{load, pathsOf}
 use Rattle.meaning.specs.Groups.{firstPart, secondPart, rangeLoad}
-use Rattle.meaning.specs.Areas.{rowsOf}
+use Rattle.meaning.specs.Areas.{rowsFor, rowsOf}
 use Rattle.meaning.specs.Sound.{SoundTask}
+use Rattle.meaning.proofs.Lists.{length-countFrom}
 use Rattle.meaning.proofs.Groups.{first-part, second-part}
 use Rattle.meaning.proofs.LoadBounds.{load-rises, range-rises, range-bound, load-bound}
 use Rattle.meaning.proofs.PathsOf.{paths-legal}
 use Rattle.ranges.specs.Stretch.{stretchCells, inside, inOrder, rangeRow, stretchOf}
 use Rattle.ranges.proofs.Rows.{order-length}
-use Rattle.ranges.proofs.WholeStretch.{ticks-length}
 
 -- ---- how many
 
@@ -27,16 +27,16 @@ use Rattle.ranges.proofs.WholeStretch.{ticks-length}
 pub stretch-length : (k : Task) (d : ℕ) → 0 < length (pathsOf k d) → length (stretchOf k d) ≡ rowsOf d k * d
 unfolding stretchOf
 stretch-length k d h =
-    order-length (rangeRow k d) d (λ ys. length-map (ticks d) (rangeLoad (load k) ys) ∙ ticks-length 1 d) (length (pathsOf k d)) (pathsOf k d) h (omega arith)
+    order-length (rangeRow k d) d (λ ys. length-map (ticks d) (rangeLoad (load k) ys) ∙ length-countFrom 1 d) (length (pathsOf k d)) (pathsOf k d) h (omega arith)
 
 -- where 9 is not the refusal, a task's need is small
-pub cells-small : (n d : ℕ) → n ≤ mostPaths → d ≤ largestD → stretchCells d n ≤ (2 * mostPaths - 1) * largestD
+pub cells-small : (n d : ℕ) → n ≤ mostPaths → d ≤ largestD → stretchCells d n ≤ rowsFor mostPaths * largestD
 cells-small n d h l =
-    let a : stretchCells d n ≤ (2 * mostPaths - 1) * d = mul-le-mul-right d (omega arith) in
-    let b : (2 * mostPaths - 1) * d ≤ (2 * mostPaths - 1) * largestD = omega arith in
+    let a : stretchCells d n ≤ rowsFor mostPaths * d = mul-le-mul-right d (omega arith) in
+    let b : rowsFor mostPaths * d ≤ rowsFor mostPaths * largestD = omega arith in
     le-trans a b
 
-pub need-small : (k : Task) (d : ℕ) → length (pathsOf k d) ≤ mostPaths → d ≤ largestD → rowsOf d k * d ≤ (2 * mostPaths - 1) * largestD
+pub need-small : (k : Task) (d : ℕ) → length (pathsOf k d) ≤ mostPaths → d ≤ largestD → rowsOf d k * d ≤ rowsFor mostPaths * largestD
 need-small k d = cells-small (length (pathsOf k d)) d
 
 -- ---- how large
@@ -68,7 +68,8 @@ module _ {X : Type 0} (loads : X → ℕ → ℕ) (rises : (x : X) (s t : ℕ) �
   unfolding inOrder
   most-order zero r h = most-row r h
   most-order (suc n) r h =
-      go (ltb 1 (length r)) (inOrder rowOf n (firstPart r)) (inOrder rowOf n (secondPart r)) (most-order n (firstPart r) (omega (arith, first-part .less loads r d))) (most-order n (secondPart r) (omega (arith, second-part .less loads r d)))
+      go (ltb 1 (length r)) (inOrder rowOf n (firstPart r)) (inOrder rowOf n (secondPart r))
+      (most-order n (firstPart r) (omega (arith, first-part .less loads r d))) (most-order n (secondPart r) (omega (arith, second-part .less loads r d)))
     where
       go : (q : Bool) (x y : List ℕ) → AtMost b x → AtMost b y → AtMost b (inside rowOf q x (rowOf r) y)
       go true x y p q = most-append b x (rowOf r ++ y) p (most-append b (rowOf r) y (most-row r h) q)

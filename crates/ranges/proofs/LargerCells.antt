@@ -5,7 +5,7 @@ use native.Mathlib.Omega.{arith}
 use mathlib.Core.List.{List, [], _∷_, _++_}
 use lib.ListN.{length, getD, take, drop, set, replicate, length-replicate, length-drop}
 use lib.Seq.{sets, length-take-le, getD-drop, getD-take}
-use Rattle.lister.proofs.Stores.{copy-more, sets-before, sets-after}
+use Rattle.meaning.proofs.Stores.{copy-more, sets-before, sets-after}
 use Rattle.ranges.specs.Stretch.{largerCells, largestRow}
 
 pub length-larger : (xs ys : List ℕ) → length (largerCells xs ys) ≡ length xs

@@ -4,3 +4,4 @@ pub mod Building
 pub mod WholeStretch
 pub mod Nodes
 pub mod CellBounds
+pub mod RowsRise

@@ -3,38 +3,38 @@ use mathlib.Core.Path.{_≡_, refl, sym, ap, ap₂, _∙_}
 use Prim.Native.Nat.{ℕ, zero, suc, _+_, _-_, _*_, _≤_, _<_}
 use native.Mathlib.Nat.{add-mul, one-mul, mul-le-mul-right}
 use native.Mathlib.Omega.{arith}
-use mathlib.Core.List.{List, _++_, map}
+use mathlib.Core.List.{List, _++_, map, map-map}
 use lib.ListN.{length, getD, take, drop, length-drop, length-map}
 use lib.Seq.{take-take, take-append-le, take-all, drop-drop, drop-append-add, drop-append-le, getD-drop, getD-take}
 use Rattle.meaning.specs.Lists.{largest, countFrom, ticks}
 use Rattle.meaning.specs.Table.{Task}
 use Rattle.meaning.specs.Paths.{Path, load, pathsOf}
+use Rattle.meaning.specs.Areas.{rowsFor}
 use Rattle.meaning.specs.Groups.{half, firstPart, secondPart, rangeLoad}
 use Rattle.meaning.specs.Verdict.{Listed, loadOf, listed}
-use Rattle.lister.proofs.PathsAreWays.{map-map}
-use Rattle.meaning.proofs.Lists.{drop-take}
+use Rattle.meaning.proofs.Lists.{drop-take, length-countFrom, take-map, drop-map}
 use Rattle.ranges.specs.Stretch.{stretchCells, inOrder, rangeRow, stretchOf}
 use Rattle.rows.specs.Order.{topRow, Node, top, low, high}
 use Rattle.ranges.proofs.Rows.{inOrder-two, first-length, second-length, order-length, order-row}
 use Rattle.rows.proofs.Order.{node-in, node-pos, top-in}
-use Rattle.ranges.proofs.WholeStretch.{ticks-length, take-map, drop-map}
 
 module _ {X : Type 0} (row : List X → List ℕ) (d : ℕ) (hr : (ys : List X) → length (row ys) ≡ d) where
   -- the row of number i
   rowAt : ℕ → List ℕ → List ℕ
   rowAt i cells = take d (drop (i * d) cells)
 
-  row-first : (i : ℕ) (A B : List ℕ) (c : ℕ) → length A ≡ stretchCells d c → i + 1 ≤ 2 * c - 1 → rowAt i (A ++ B) ≡ rowAt i A
+  row-first : (i : ℕ) (A B : List ℕ) (c : ℕ) → length A ≡ stretchCells d c → i + 1 ≤ rowsFor c → rowAt i (A ++ B) ≡ rowAt i A
   unfolding rowAt
   row-first i A B c l h =
       let e : (i + 1) * d ≡ i * d + d = add-mul i 1 d ∙ ap (λ (n : ℕ). i * d + n) (one-mul d) in
-      let f : (i + 1) * d ≤ (2 * c - 1) * d = mul-le-mul-right d h in
+      let f : (i + 1) * d ≤ rowsFor c * d = mul-le-mul-right d h in
       ap (take d) (drop-append-le (i * d) A B (omega arith)) ∙ take-append-le d (drop (i * d) A) B (omega (arith, length-drop (i * d) A))
 
-  row-second : (i j : ℕ) (A R B : List ℕ) (c : ℕ) → length A ≡ stretchCells d c → length R ≡ d → i ≡ 2 * c - 1 + (1 + j) → rowAt i (A ++ (R ++ B)) ≡ rowAt j B
+  row-second : (i j : ℕ) (A R B : List ℕ) (c : ℕ) → length A ≡ stretchCells d c → length R ≡ d → i ≡ rowsFor c + (1 + j) → rowAt i (A ++ (R ++ B)) ≡ rowAt j B
   unfolding rowAt
   row-second i j A R B c l r q =
-      let z : i * d ≡ length A + (length R + j * d) = ap (λ (n : ℕ). n * d) q ∙ add-mul (2 * c - 1) (1 + j) d ∙ ap₂ _+_ (sym l) (add-mul 1 j d ∙ ap (λ (n : ℕ). n + j * d) (one-mul d ∙ sym r)) in
+      let y : (1 + j) * d ≡ length R + j * d = add-mul 1 j d ∙ ap (λ (n : ℕ). n + j * d) (one-mul d ∙ sym r) in
+      let z : i * d ≡ length A + (length R + j * d) = ap (λ (n : ℕ). n * d) q ∙ add-mul (rowsFor c) (1 + j) d ∙ ap₂ _+_ (sym l) y in
       ap (λ (n : ℕ). take d (drop n (A ++ (R ++ B)))) z ∙ ap (take d) (drop-append-add A (R ++ B) (length R + j * d) ∙ drop-append-add R B (j * d))
 
   -- a range of xs, and the row of number 2 first + top
@@ -52,8 +52,9 @@ module _ {X : Type 0} (row : List X → List ℕ) (d : ℕ) (hr : (ys : List X) 
       let c = first-length row xs in
       let k : half (length xs) ≡ half n = ap half l in
       let t = top-in m (node-pos x (omega arith)) in
+      let before = order-length row d hr turns (firstPart xs) (omega arith) (omega arith) in
       ap (rowAt (2 * (f - a) + topRow m)) (inOrder-two row turns xs (omega arith))
-      ∙ row-first (2 * (f - a) + topRow m) (inOrder row turns (firstPart xs)) (row xs ++ inOrder row turns (secondPart xs)) (length (firstPart xs)) (order-length row d hr turns (firstPart xs) (omega arith) (omega arith)) (omega arith)
+      ∙ row-first (2 * (f - a) + topRow m) (inOrder row turns (firstPart xs)) (row xs ++ inOrder row turns (secondPart xs)) (length (firstPart xs)) before (omega arith)
       ∙ node-row x turns (firstPart xs) (c ∙ k) (omega arith) (omega arith)
       ∙ ap row (ap (take m) (drop-take (f - a) (half (length xs)) xs) ∙ take-take m (half (length xs) - (f - a)) (drop (f - a) xs) (omega arith))
   node-row {a} {n} {f} {m} (high o x) zero xs l h u = absurd (omega arith)
@@ -63,8 +64,10 @@ module _ {X : Type 0} (row : List X → List ℕ) (d : ℕ) (hr : (ys : List X) 
       let s = second-length row xs in
       let k : half (length xs) ≡ half n = ap half l in
       let z : half (length xs) + (f - (a + half n)) ≡ f - a = omega arith in
+      let before = order-length row d hr turns (firstPart xs) (omega arith) (omega arith) in
       ap (rowAt (2 * (f - a) + topRow m)) (inOrder-two row turns xs (omega arith))
-      ∙ row-second (2 * (f - a) + topRow m) (2 * (f - (a + half n)) + topRow m) (inOrder row turns (firstPart xs)) (row xs) (inOrder row turns (secondPart xs)) (length (firstPart xs)) (order-length row d hr turns (firstPart xs) (omega arith) (omega arith)) (hr xs) (omega arith)
+      ∙ row-second (2 * (f - a) + topRow m) (2 * (f - (a + half n)) + topRow m) (inOrder row turns (firstPart xs)) (row xs) (inOrder row turns (secondPart xs))
+      (length (firstPart xs)) before (hr xs) (omega arith)
       ∙ node-row x turns (secondPart xs) (omega arith) (omega arith) (omega arith)
       ∙ ap row (ap (take m) (drop-drop (f - (a + half n)) (half (length xs)) xs ∙ ap (λ (i : ℕ). drop i xs) z))
 
@@ -72,7 +75,8 @@ module _ {X : Type 0} (row : List X → List ℕ) (d : ℕ) (hr : (ys : List X) 
   unfolding rowAt
   order-node xs {f} {m} h x =
       let z : f - 0 ≡ f = omega arith in
-      ap (λ (i : ℕ). take d (drop ((2 * i + topRow m) * d) (inOrder row (length xs) xs))) (sym z) ∙ node-row x (length xs) xs refl h (omega arith) ∙ ap (λ (i : ℕ). row (take m (drop i xs))) z
+      ap (λ (i : ℕ). take d (drop ((2 * i + topRow m) * d) (inOrder row (length xs) xs))) (sym z)
+      ∙ node-row x (length xs) xs refl h (omega arith) ∙ ap (λ (i : ℕ). row (take m (drop i xs))) z
 
 -- ---- of a task
 
@@ -90,7 +94,8 @@ stretch-cell k d {first} {len} h x t l u =
     let o = (2 * first + topRow len) * d in
     let r = take len (drop first (pathsOf k d)) in
     sym (getD-take d (drop o (stretchOf k d)) (t - 1) 0 (omega arith) ∙ getD-drop o (stretchOf k d) (t - 1) 0)
-    ∙ ap (λ (cells : List ℕ). getD cells (t - 1) 0) (order-node (rangeRow k d) d (λ ys. length-map (ticks d) (rangeLoad (load k) ys) ∙ ticks-length 1 d) (pathsOf k d) h x)
+    ∙ ap (λ (cells : List ℕ). getD cells (t - 1) 0)
+    (order-node (rangeRow k d) d (λ ys. length-map (ticks d) (rangeLoad (load k) ys) ∙ length-countFrom 1 d) (pathsOf k d) h x)
     ∙ tick-at (rangeLoad (load k) r) 1 d (t - 1) (omega arith) ∙ ap (rangeLoad (load k) r) z
 
 -- the same, where each path stands beside its task
@@ -100,4 +105,4 @@ listed-cell k d {first} {len} h x t l u =
     let mk : Path → Listed = λ (w : Path). record { task = k; path = w } in
     stretch-cell k d h x t l u
     ∙ sym (ap (λ (r : List Listed). rangeLoad loadOf r t) (ap (take len) (drop-map mk first (pathsOf k d)) ∙ take-map mk len (drop first (pathsOf k d)))
-    ∙ ap largest (map-map mk (λ (y : Listed). loadOf y t) (take len (drop first (pathsOf k d)))))
+    ∙ ap largest (map-map (λ (y : Listed). loadOf y t) mk (take len (drop first (pathsOf k d)))))

@@ -10,6 +10,7 @@ use mathlib.Core.List.{List, _++_}
 use lib.ListN.{length, take, drop, length-append, length-drop}
 use lib.Seq.{length-take-le, take-at, drop-at, take-all}
 use Rattle.meaning.specs.Lists.{pick}
+use Rattle.meaning.specs.Areas.{rowsFor}
 use Rattle.meaning.specs.Groups.{half, firstPart, secondPart}
 use Rattle.ranges.specs.Stretch.{stretchCells, inside, inOrder}
 use Rattle.rows.specs.Order.{topRow}
@@ -19,8 +20,9 @@ use Rattle.rows.proofs.Order.{top-in}
 
 pub cells-sum : (d a b : ℕ) → 0 < a → 0 < b → stretchCells d a + (d + stretchCells d b) ≡ stretchCells d (a + b)
 cells-sum d a b p q =
-    let e : 2 * (a + b) - 1 ≡ (2 * a - 1) + (1 + (2 * b - 1)) = omega arith in
-    sym (ap (λ (n : ℕ). n * d) e ∙ add-mul (2 * a - 1) (1 + (2 * b - 1)) d ∙ ap (λ (n : ℕ). stretchCells d a + n) (add-mul 1 (2 * b - 1) d ∙ ap (λ (n : ℕ). n + stretchCells d b) (one-mul d)))
+    let e : rowsFor (a + b) ≡ rowsFor a + (1 + rowsFor b) = omega arith in
+    sym (ap (λ (n : ℕ). n * d) e ∙ add-mul (rowsFor a) (1 + rowsFor b) d
+    ∙ ap (λ (n : ℕ). stretchCells d a + n) (add-mul 1 (rowsFor b) d ∙ ap (λ (n : ℕ). n + stretchCells d b) (one-mul d)))
 
 module _ {X : Type 0} (row : List X → List ℕ) where
   pub inOrder-one : (n : ℕ) (xs : List X) → length xs ≤ 1 → inOrder row n xs ≡ row xs
@@ -44,7 +46,9 @@ module _ {X : Type 0} (row : List X → List ℕ) where
   order-fuel (suc n) (suc m) xs a b =
       elim (decLt 1 (length xs)) [
         | yes h ↦ inOrder-two n xs h
-            ∙ ap₂ (λ (p q : List ℕ). p ++ (row xs ++ q)) (order-fuel n m (firstPart xs) (omega (arith, first-length xs)) (omega (arith, first-length xs))) (order-fuel n m (secondPart xs) (omega (arith, second-length xs)) (omega (arith, second-length xs)))
+            ∙ ap₂ (λ (p q : List ℕ). p ++ (row xs ++ q))
+            (order-fuel n m (firstPart xs) (omega (arith, first-length xs)) (omega (arith, first-length xs)))
+            (order-fuel n m (secondPart xs) (omega (arith, second-length xs)) (omega (arith, second-length xs)))
             ∙ sym (inOrder-two m xs h)
         | no h ↦ inOrder-one (suc n) xs (omega arith) ∙ sym (inOrder-one (suc m) xs (omega arith))
       ]
@@ -54,8 +58,10 @@ module _ {X : Type 0} (row : List X → List ℕ) where
     order-length zero xs p a = absurd (omega arith)
     order-length (suc n) xs p a =
         elim (decLt 1 (length xs)) [
-          | yes h ↦ two h (order-length n (firstPart xs) (omega (arith, first-length xs)) (omega (arith, first-length xs))) (order-length n (secondPart xs) (omega (arith, second-length xs)) (omega (arith, second-length xs)))
-          | no h ↦ let e : 2 * length xs - 1 ≡ 1 = omega arith in
+          | yes h ↦ two h
+              (order-length n (firstPart xs) (omega (arith, first-length xs)) (omega (arith, first-length xs)))
+              (order-length n (secondPart xs) (omega (arith, second-length xs)) (omega (arith, second-length xs)))
+          | no h ↦ let e : rowsFor (length xs) ≡ 1 = omega arith in
               ap length (inOrder-one (suc n) xs (omega arith)) ∙ hr xs ∙ sym (ap (λ (z : ℕ). z * d) e ∙ one-mul d)
         ]
       where
@@ -79,12 +85,12 @@ module _ {X : Type 0} (row : List X → List ℕ) where
           | yes h ↦
               let f = first-length xs in
               let l : length (inOrder row n (firstPart xs)) ≡ topRow (length xs) * d = order-length n (firstPart xs) (omega arith) (omega arith)
-              ∙ ap (stretchCells d) f ∙ ap (λ (b : Bool). pick b (2 * half (length xs) - 1) 0 * d) (sym (lt-ltb 1 (length xs) h)) in
+              ∙ ap (stretchCells d) f ∙ ap (λ (b : Bool). pick b (rowsFor (half (length xs))) 0 * d) (sym (lt-ltb 1 (length xs) h)) in
               ap (λ (z : List ℕ). take d (drop (topRow (length xs) * d) z)) (inOrder-two n xs h)
               ∙ ap (take d) (drop-at (inOrder row n (firstPart xs)) (row xs ++ inOrder row n (secondPart xs)) (topRow (length xs) * d) l)
               ∙ take-at (row xs) (inOrder row n (secondPart xs)) d (hr xs)
           | no h ↦
-              ap (λ (b : Bool). take d (drop (pick b (2 * half (length xs) - 1) 0 * d) (inOrder row (suc n) xs))) (le-ltb 1 (length xs) (omega arith))
+              ap (λ (b : Bool). take d (drop (pick b (rowsFor (half (length xs))) 0 * d) (inOrder row (suc n) xs))) (le-ltb 1 (length xs) (omega arith))
               ∙ ap (λ (z : ℕ). take d (drop z (inOrder row (suc n) xs))) (zero-mul d)
               ∙ ap (take d) (inOrder-one (suc n) xs (omega arith)) ∙ take-all d (row xs) (omega (arith, hr xs))
         ]

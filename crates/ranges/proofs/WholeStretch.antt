@@ -11,11 +11,14 @@ use lib.Seq.{sets, length-sets, sets-eq, take-at}
 use Rattle.meaning.specs.Lists.{countFrom, ticks}
 use Rattle.meaning.specs.Table.{Task}
 use Rattle.meaning.specs.Paths.{load, pathsOf}
+use Rattle.meaning.specs.Areas.{rowsFor}
 use Rattle.meaning.specs.Groups.{half, firstPart, secondPart, rangeLoad}
-use Rattle.lister.specs.Columns.{mostCounted}
-use Rattle.lister.specs.Rows.{Room, putRows, loadRow}
-use Rattle.lister.proofs.Stores.{sets-drop, sets-take}
-use Rattle.ranges.specs.Stretch.{largerCells, largestRow, stretchCells, singleRows, inside, inOrder, rangeRow, stretchOf}
+use Rattle.ways.specs.Ways.{mostCounted}
+use Rattle.loads.specs.Rows.{Room, putRows}
+use Rattle.ways.specs.Runs.{loadRow}
+use Rattle.meaning.proofs.Lists.{length-countFrom, take-map, drop-map}
+use Rattle.meaning.proofs.Stores.{sets-drop, sets-take}
+use Rattle.ranges.specs.Stretch.{largerCells, largestRow, stretchCells, singleRows, inside, inOrder, rangeRow, stretchOf, built}
 
 row-at : (d i : ℕ) → 2 * (i + 1) * d ≡ 2 * d + 2 * i * d
 row-at d i =
@@ -51,23 +54,13 @@ module _ {X : Type 0} (f : X → List ℕ) (d : ℕ) (hf : (x : X) → length (f
       (ap (singleRows d (length ws)) (put-drop (map f ws) d 0 P1) ∙ put-singles ws (drop (2 * d) P1) (omega (arith, next (length ws))))
     where
       pos : (n : ℕ) → d ≤ stretchCells d (suc n)
-      pos n = let e : 2 * suc n - 1 ≡ 1 + 2 * n = omega arith in omega (arith, ap (λ (m : ℕ). m * d) e ∙ add-mul 1 (2 * n) d, one-mul d)
+      pos n = let e : rowsFor (suc n) ≡ 1 + 2 * n = omega arith in omega (arith, ap (λ (m : ℕ). m * d) e ∙ add-mul 1 (2 * n) d, one-mul d)
 
       next : (n : ℕ) → stretchCells d n ≤ stretchCells d (suc n) - 2 * d
       next zero = omega (arith, zero-mul d)
-      next (suc n) = let e : 2 * suc (suc n) - 1 ≡ 2 + (2 * suc n - 1) = omega arith in omega (arith, ap (λ (m : ℕ). m * d) e ∙ add-mul 2 (2 * suc n - 1) d)
+      next (suc n) = let e : rowsFor (suc (suc n)) ≡ 2 + rowsFor (suc n) = omega arith in omega (arith, ap (λ (m : ℕ). m * d) e ∙ add-mul 2 (rowsFor (suc n)) d)
 
 -- ---- rows of paths
-
-pub take-map : {X Y : Type 0} (f : X → Y) (n : ℕ) (xs : List X) → take n (map f xs) ≡ map f (take n xs)
-take-map f zero xs = refl
-take-map f (suc n) [] = refl
-take-map f (suc n) (x ∷ xs) = ap (λ (z : List _). f x ∷ z) (take-map f n xs)
-
-pub drop-map : {X Y : Type 0} (f : X → Y) (n : ℕ) (xs : List X) → drop n (map f xs) ≡ map f (drop n xs)
-drop-map f zero xs = refl
-drop-map f (suc n) [] = refl
-drop-map f (suc n) (x ∷ xs) = drop-map f n xs
 
 pub order-map : {X : Type 0} (f : X → List ℕ) (row : List (List ℕ) → List ℕ) (own : List X → List ℕ) → ((r : List X) → row (map f r) ≡ own r)
     → (n : ℕ) (xs : List X) → inOrder row n (map f xs) ≡ inOrder own n xs
@@ -96,22 +89,18 @@ range-rows : (k : Task) (d : ℕ) (r : List (List ℕ)) → largestRow d (map (l
 range-rows k d [] = zeros 1 d
 range-rows k d (w ∷ ws) = ap (λ (z : List ℕ). largerCells z (loadRow k d w)) (range-rows k d ws) ∙ larger-map (rangeLoad (load k) ws) (load k w) (ticks d)
 
-pub ticks-length : (a n : ℕ) → length (countFrom a n) ≡ n
-ticks-length a zero = refl
-ticks-length a (suc n) = ap suc (ticks-length (suc a) n)
-
 pub stretch-is : (k : Task) (d m : ℕ) (P Q R : List ℕ) → m ≡ length (pathsOf k d) → stretchCells d m ≤ length P
-    → Q ≡ putRows d 0 (map (loadRow k d) (pathsOf k d)) P → R ≡ inOrder (largestRow d) m (singleRows d m Q) → R ≡ stretchOf k d
+    → Q ≡ putRows d 0 (map (loadRow k d) (pathsOf k d)) P → R ≡ built d m Q → R ≡ stretchOf k d
 unfolding stretchOf
 stretch-is k d m P Q R hm hl eQ eR =
     let W = pathsOf k d in
     let q : singleRows d m Q ≡ map (loadRow k d) W =
     ap₂ (λ (a : ℕ) (b : List ℕ). singleRows d a b) hm eQ
-    ∙ put-singles (loadRow k d) d (λ w. length-map (ticks d) (load k w) ∙ ticks-length 1 d) W P (subst (λ (a : ℕ). stretchCells d a ≤ length P) hm hl) in
+    ∙ put-singles (loadRow k d) d (λ w. length-map (ticks d) (load k w) ∙ length-countFrom 1 d) W P (subst (λ (a : ℕ). stretchCells d a ≤ length P) hm hl) in
     eR ∙ ap (inOrder (largestRow d) m) q ∙ order-map (loadRow k d) (largestRow d) (rangeRow k d) (range-rows k d) m W
     ∙ ap (λ (n : ℕ). inOrder (rangeRow k d) n W) hm
 
 pub room-for : (d n len m : ℕ) → 0 < n → n ≤ mostCounted → len ≡ stretchCells d n → m ≡ n → Room d m len
 room-for d n len m h l e q =
-    let z : 2 * m ≡ 2 * n - 1 + 1 = omega arith in
-    record { few = omega arith; fits = omega (arith, ap (λ (x : ℕ). x * d) z ∙ add-mul (2 * n - 1) 1 d, one-mul d) }
+    let z : 2 * m ≡ rowsFor n + 1 = omega arith in
+    record { few = omega arith; fits = omega (arith, ap (λ (x : ℕ). x * d) z ∙ add-mul (rowsFor n) 1 d, one-mul d) }

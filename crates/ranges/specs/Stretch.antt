@@ -1,5 +1,5 @@
 -- A task's stretch of the work area: the rows of its ranges, in order. Assumes nothing.
-use Prim.Native.Nat.{ℕ, zero, suc, _-_, _*_, max}
+use Prim.Native.Nat.{ℕ, zero, suc, _*_, max}
 use mathlib.Core.Bool.{Bool, true, false}
 use mathlib.Core.List.{List, [], _∷_, _++_, map}
 use lib.Dec.{ltb}
@@ -7,11 +7,12 @@ use lib.ListN.{length, take, drop, replicate}
 use Rattle.meaning.specs.Lists.{ticks}
 use Rattle.meaning.specs.Table.{Task}
 use Rattle.meaning.specs.Paths.{Path, load, pathsOf}
+use Rattle.meaning.specs.Areas.{rowsFor}
 use Rattle.meaning.specs.Groups.{firstPart, secondPart, rangeLoad}
 
--- a range of n paths has 2n - 1 rows: its own, and those of its parts
+-- the cells of a range of n paths: a row of d for it, and for each of its parts
 abbrev pub stretchCells : ℕ → ℕ → ℕ
-stretchCells d n = (2 * n - 1) * d
+stretchCells d n = rowsFor n * d
 
 module _ {X : Type 0} (row : List X → List ℕ) where
   abbrev pub inside : Bool → List ℕ → List ℕ → List ℕ → List ℕ
@@ -48,3 +49,7 @@ largestRow d (x ∷ xs) = largerCells (largestRow d xs) x
 abbrev pub singleRows : ℕ → ℕ → List ℕ → List (List ℕ)
 singleRows d zero P = []
 singleRows d (suc n) P = take d P ∷ singleRows d n (drop (2 * d) P)
+
+-- the rows of n paths, from those of the single ones
+abbrev pub built : ℕ → ℕ → List ℕ → List ℕ
+built d n P = inOrder (largestRow d) n (singleRows d n P)

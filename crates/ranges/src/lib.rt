@@ -4,7 +4,8 @@
 // A stretch has a row of d cells for each range of its task's paths, in order: the rows of the first part, then the range's own, then the second part's.
 // So the path of place i has row 2i, and the range of len paths from place first on has row 2 first + top_row(len).
 use kinds::Ticks;
-use lister::path_rows;
+use paths::path_rows;
+use rows::half;
 use rows::top_row;
 use table::Task;
 ghost use mathlib.Core.Path.{_≡_};
@@ -14,8 +15,8 @@ ghost use lib.Seq.{sets};
 ghost use Rattle.meaning.specs.Bounds.{largestD};
 ghost use Rattle.meaning.specs.Paths.{pathsOf};
 ghost use Rattle.table.specs.Record.{taskOf, HeldTask};
-ghost use Rattle.lister.specs.Columns.{mostCounted};
-ghost use Rattle.ranges.specs.Stretch.{largerCells, largestRow, stretchCells, singleRows, inOrder, stretchOf};
+ghost use Rattle.ways.specs.Ways.{mostCounted};
+ghost use Rattle.ranges.specs.Stretch.{largerCells, stretchCells, built, stretchOf};
 
 fn larger(x: u32, y: u32) -> u32
     ensures { λ r. ⌜ r ≡ max x y ⌝ }
@@ -41,12 +42,12 @@ fn larger_row(part: &mut [u32], o: usize, a: usize, b: usize, d: usize)
 // Fills the rows between those of the single paths.
 fn build(part: &mut [u32], len: usize, d: usize)
     requires { ⌜ (0 < len) × (len ≤ mostCounted) × (d ≤ largestD) × (length (now part) ≡ stretchCells d len) ⌝ }
-    ensures { λ _. ⌜ now (part .exit) ≡ inOrder (largestRow d) len (singleRows d len (now (part .entry))) ⌝ }
+    ensures { λ _. ⌜ now (part .exit) ≡ built d len (now (part .entry)) ⌝ }
 {
     if len == 1 {
         return;
     }
-    let c = len - len / 2;
+    let c = half(len);
     let o = (2 * c - 1) * d;
     let m = o + d;
     build(&mut part[..o], c, d);

@@ -14,7 +14,8 @@ use Rattle.reader.proofs.Result.{TableRead, LineRefused}
 pub check-readable : {text : List ℕ} {t : Table} → TableRead text t → 0 ≡ packed (read text)
 check-readable r = sym (ap packed (r .means))
 
-pub check-refused : {text : List ℕ} {at : RefusedAt} → LineRefused text at → (n : ℕ) → n ≡ refusalNumber (at .refusal) → n * 65536 + at .place ≡ packed (read text)
+pub check-refused : {text : List ℕ} {at : RefusedAt} → LineRefused text at → (n : ℕ) → n ≡ refusalNumber (at .refusal)
+    → n * 65536 + at .place ≡ packed (read text)
 check-refused r n e = rw e (sym (ap packed (r .means)))
 
 abbrev pub numberIn : Text.Reading → ℕ

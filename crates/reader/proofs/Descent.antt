@@ -11,9 +11,9 @@ use Rattle.table.specs.declared.Table.{Table}
 use Rattle.table.specs.Record.{noTable}
 use Rattle.lines.specs.declared.Outcome.{Outcome}
 use Rattle.lines.specs.declared.Outcome.the-variants.{AllTaken, StoppedBy}
-use Rattle.lines.specs.declared.TaskOrEndLine.{TaskOrEndLine}
-use Rattle.lines.specs.declared.TaskOrEndLine.the-variants.{TaskTaken, EndTaken, FrameRefused}
-use Rattle.lines.specs.Frames.{taskBytes, partBytes, endBytes, taskOrEndLine}
+use Rattle.frames.specs.declared.TaskOrEndLine.{TaskOrEndLine}
+use Rattle.frames.specs.declared.TaskOrEndLine.the-variants.{TaskTaken, EndTaken, FrameRefused}
+use Rattle.frames.specs.Frames.{taskBytes, partBytes, endBytes, taskOrEndLine}
 use Rattle.lines.specs.Parts.{taskLines}
 use Rattle.reader.specs.declared.Status.the-variants.{Readable}
 use Rattle.reader.specs.declared.Reading.{Reading}

@@ -73,9 +73,6 @@ module _ (text : List ℕ) where
     pub line-refused : {at : RefusedAt} → r .status ≡ Refused at → LineRefused text at
     line-refused q = subst (λ (s : Status). Says s (r .table)) q reading-says .0
 
-    pub refused-empty : {at : RefusedAt} → r .status ≡ Refused at → r .table ≡ noTable
-    refused-empty q = subst (λ (s : Status). Says s (r .table)) q reading-says .1
-
 -- two results that satisfy the statement of `read` coincide, in the status and in every cell of the table
 pub reading-settled : (text : List ℕ) (r s : Reading) → r ≡ readingRecord (read text) → s ≡ readingRecord (read text) → r ≡ s
 reading-settled text r s p q = p ∙ sym q

@@ -1,5 +1,5 @@
 -- One turn of the loop over a text's tasks. Assumes nothing.
-use mathlib.Core.Path.{_≡_, refl, sym, ap, subst, _∙_}
+use mathlib.Core.Path.{_≡_, refl, sym, ap, _∙_}
 use Prim.Native.Nat.{ℕ, zero, suc, _+_, _-_, _*_, _≤_, _<_}
 use native.Mathlib.Omega.{arith}
 use mathlib.Core.List.{List}
@@ -7,18 +7,18 @@ use lib.ListN.{length, drop, length-drop}
 use lib.Seq.{drop-drop}
 use borrow.Author.Tests.{eq-eqb, ne-eqb}
 use Rattle.meaning.specs.Bounds.{mostTasks, mostVertices, mostEdges}
-use Rattle.meaning.specs.Text.{read}
+use Rattle.meaning.specs.Text.{mostLines, read}
 use Rattle.kinds.specs.declared.Refusal.{Refusal}
 use Rattle.kinds.specs.declared.Refusal.the-variants.{WrongFrame, BytesAfterEnd}
 use Rattle.table.specs.declared.Table.{Table}
 use Rattle.table.specs.Record.{noTable}
-use Rattle.lines.specs.declared.TaskOrEndLine.{TaskOrEndLine}
-use Rattle.lines.specs.declared.TaskOrEndLine.the-variants.{TaskTaken, EndTaken, FrameRefused}
+use Rattle.frames.specs.declared.TaskOrEndLine.{TaskOrEndLine}
+use Rattle.frames.specs.declared.TaskOrEndLine.the-variants.{TaskTaken, EndTaken, FrameRefused}
 use Rattle.lines.specs.declared.Outcome.the-variants.{AllTaken, StoppedBy}
 use Rattle.lines.specs.declared.TaskLines.{TaskLines}
-use Rattle.lines.specs.Frames.{taskBytes, partBytes, endBytes, taskOrEndLine}
+use Rattle.frames.specs.Frames.{taskBytes, partBytes, endBytes, taskOrEndLine}
 use Rattle.lines.specs.Parts.{taskLines}
-use Rattle.lines.proofs.TaskOrEnd.{TaskHas, task-has}
+use Rattle.frames.proofs.TaskOrEnd.{TaskHas, task-has}
 use Rattle.lines.proofs.TaskRead.{task-reach}
 use Rattle.lines.proofs.Reach.{Reach}
 use Rattle.lines.proofs.Turns.{lent, lent-drop}
@@ -32,8 +32,7 @@ use Rattle.reader.proofs.Whole.{whole}
 pub record Turn (s : List ℕ) (t : Table) (at line : ℕ) : Type 0 where
   pub inside : at ≤ length s
   pub few : t .n ≤ mostTasks
-  -- a task with all its vertices and edges has 45 lines
-  pub early : line ≤ 1 + 45 * t .n
+  pub early : line ≤ 1 + mostLines * t .n
   pub going : tasksOn (mostTasks - t .n) t line (drop at s) ≡ readingRecord (read s)
 
 pub turn-first : (s : List ℕ) (t : Table) → t ≡ noTable → Turn s t 0 1
@@ -41,7 +40,8 @@ turn-first s t e =
     let none : t .n ≡ 0 = ap (λ (z : Table). z .n) e in
     record { inside = omega arith; few = omega arith; early = omega arith; going = rw e (whole s) }
 
-not-task : (g : ℕ) (t : Table) (line : ℕ) (s : List ℕ) (x : TaskOrEndLine) → taskOrEndLine (t .n) s ≡ x → ((v e : ℕ) → x ≡ TaskTaken v e → ⊥) → tasksOn g t line s ≡ frameThen x t line (length s) (λ v e. refusedRecord WrongFrame line)
+not-task : (g : ℕ) (t : Table) (line : ℕ) (s : List ℕ) (x : TaskOrEndLine) → taskOrEndLine (t .n) s ≡ x → ((v e : ℕ) → x ≡ TaskTaken v e → ⊥)
+    → tasksOn g t line s ≡ frameThen x t line (length s) (λ v e. refusedRecord WrongFrame line)
 unfolding tasksOn
 not-task zero t line s x q n = rw q
 not-task (suc g) t line s (TaskTaken v e) q n = absurd (n v e refl)
@@ -57,8 +57,12 @@ module _ {s : List ℕ} {t : Table} {at line : ℕ} {x : TaskOrEndLine} (f : Fra
   frame-here : taskOrEndLine (t .n) (drop at s) ≡ x
   frame-here = sym (f .gives ∙ ap (taskOrEndLine (t .n)) (lent-drop s at))
 
-  ended : ((v e : ℕ) → x ≡ TaskTaken v e → ⊥) → frameThen x t line (length s - at) (λ v e. refusedRecord WrongFrame line) ≡ readingRecord (read s)
-  ended n = sym (ap (λ (k : ℕ). frameThen x t line k (λ v e. refusedRecord WrongFrame line)) (length-drop at s)) ∙ sym (not-task (mostTasks - t .n) t line (drop at s) x frame-here n) ∙ f .turn .going
+  abbrev given : ℕ → Reading
+  given k = frameThen x t line k (λ v e. refusedRecord WrongFrame line)
+
+  ended : ((v e : ℕ) → x ≡ TaskTaken v e → ⊥) → given (length s - at) ≡ readingRecord (read s)
+  ended n =
+      sym (ap given (length-drop at s)) ∙ sym (not-task (mostTasks - t .n) t line (drop at s) x frame-here n) ∙ f .turn .going
 
   pub frame-refused : {w : Refusal} → x ≡ FrameRefused w → refusedRecord w line ≡ readingRecord (read s)
   frame-refused {w} q = sym (rw q) ∙ ended (λ v e z. let k : _≡_ {A = ℕ} 0 1 = cc in omega arith)
@@ -75,12 +79,19 @@ pub record TaskFacts (s : List ℕ) (t : Table) (at line v e : ℕ) : Type 0 whe
   pub v-in : v ≤ mostVertices
   pub e-in : e ≤ mostEdges
   pub left : t .n < mostTasks
-  pub early : line ≤ 1 + 45 * t .n
+  pub early : line ≤ 1 + mostLines * t .n
 
-pub task-facts : {s : List ℕ} {t : Table} {at line v e : ℕ} {x : TaskOrEndLine} → FrameTurn s t at line x → x ≡ TaskTaken v e → TaskFacts s t at line v e
+pub task-facts : {s : List ℕ} {t : Table} {at line v e : ℕ} {x : TaskOrEndLine} → FrameTurn s t at line x → x ≡ TaskTaken v e
+    → TaskFacts s t at line v e
 task-facts {s} {t} {at} {line} {v} {e} f q =
     let h : TaskHas (t .n) v e (drop at s) = task-has (t .n) v e (drop at s) (frame-here f ∙ q) in
-    record { fits = omega (arith, h .long, length-drop at s, f .turn .inside); v-in = h .bounds .v-in; e-in = h .bounds .e-in; left = h .fits; early = f .turn .early }
+    record {
+      fits = omega (arith, h .long, length-drop at s, f .turn .inside);
+      v-in = h .bounds .v-in;
+      e-in = h .bounds .e-in;
+      left = h .fits;
+      early = f .turn .early;
+    }
 
 -- the lines of the task are read
 pub record TaskTurn (s : List ℕ) (t : Table) (at line v e : ℕ) (a : TaskLines) : Type 0 where
@@ -92,13 +103,15 @@ module _ {s : List ℕ} {t : Table} {at line v e : ℕ} {a : TaskLines} (f : Tas
   facts = task-facts (f .frame) refl
 
   reach : Reach 0 (v + e) (drop (at + taskBytes) s) (a .count) (a .outcome)
-  reach = subst (λ (b : TaskLines). Reach 0 (v + e) (drop (at + taskBytes) s) (b .count) (b .outcome)) (sym (f .gives)) (task-reach v e (drop (at + taskBytes) s))
+  reach = rw (f .gives) (task-reach v e (drop (at + taskBytes) s))
 
   pub lines-few : a .count ≤ v + e
   lines-few = omega (arith, reach .few)
 
   abbrev after : TaskLines → Reading
-  after b = linesThen (b .outcome) (line + 1 + b .count) (tasksOn (mostTasks - (t .n + 1)) (putTask t (b .task)) (line + 1 + v + e) (drop (at + taskBytes + (v + e) * partBytes) s))
+  after b =
+      linesThen (b .outcome) (line + 1 + b .count)
+      (tasksOn (mostTasks - (t .n + 1)) (putTask t (b .task)) (line + 1 + v + e) (drop (at + taskBytes + (v + e) * partBytes) s))
 
   task-on : after a ≡ readingRecord (read s)
   unfolding tasksOn

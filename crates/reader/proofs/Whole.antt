@@ -4,26 +4,27 @@ use Prim.Native.Nat.{ℕ, zero, suc, _+_, _*_, _≤_, _<_}
 use native.Mathlib.Omega.{arith}
 use native.Mathlib.Numerals.{add-one}
 use mathlib.Core.Bool.{Bool, true, false}
-use mathlib.Core.List.{List, [], _∷_, _++_, map}
-use lib.ListN.{length, drop, set, length-drop, drop-of-length-le}
+use mathlib.Core.List.{List, [], _∷_, _++_}
+use lib.ListN.{length, length-append, drop, length-drop, drop-of-length-le}
 use lib.Seq.{drop-drop}
 use lib.Dec.{eqb}
 use borrow.Author.Tests.{eqb-true, eqb-false}
 use Rattle.meaning.specs.Bounds.{mostTasks}
 use Rattle.meaning.specs.Table as Meant
 use Rattle.meaning.specs.Text as Text
-use Rattle.meaning.specs.Text.{Line, lineFeed, linesOf, intoFirst, Begun, closed, unreadable, atEnd, readFrom, read}
+use Rattle.meaning.specs.Text.{Line, lineFeed, linesOf, intoFirst, begun, closed, unreadable, atEnd, readFrom, read}
 use Rattle.kinds.specs.declared.Refusal.the-variants.{WrongFrame}
 use Rattle.kinds.proofs.Numbers.{refusal-of-number}
 use Rattle.table.specs.Record.{padded, noTask, noTable, taskRecord, tableRecord}
-use Rattle.lines.specs.declared.TaskOrEndLine.{TaskOrEndLine}
-use Rattle.lines.specs.declared.TaskOrEndLine.the-variants.{TaskTaken, EndTaken, FrameRefused}
+use Rattle.frames.specs.declared.TaskOrEndLine.{TaskOrEndLine}
+use Rattle.frames.specs.declared.TaskOrEndLine.the-variants.{TaskTaken, EndTaken, FrameRefused}
 use Rattle.lines.specs.declared.TaskLines.{TaskLines}
-use Rattle.lines.specs.Frames.{taskBytes, partBytes, endBytes, endDigits, taskOrEndLine}
+use Rattle.frames.specs.Frames.{taskBytes, partBytes, endBytes, endDigits, taskOrEndLine}
 use Rattle.lines.specs.Parts.{taskLines}
-use Rattle.lines.proofs.Padded.{length-snoc, padded-set}
-use Rattle.lines.proofs.TaskOrEnd.{TaskBounds, frameGives, task-or-end-read, task-has, end-long}
-use Rattle.lines.proofs.TaskRead.{TaskGives, whole-task, no-task, task-run}
+use Rattle.lines.proofs.Padded.{padded-set}
+use Rattle.rules.proofs.Within.{TaskBounds}
+use Rattle.frames.proofs.TaskOrEnd.{frameGives, task-or-end-read, task-has, end-long}
+use Rattle.lines.proofs.TaskRead.{TaskGives, whole-task, task-stopped, task-run}
 use Rattle.reader.specs.declared.Reading.{Reading}
 use Rattle.reader.specs.Record.{refusedRecord, readingRecord}
 use Rattle.reader.proofs.Descent.{putTask, linesThen, frameThen, tasksOn, wholeText}
@@ -42,10 +43,15 @@ more-left ts n (b ∷ u) h = go (eqb b lineFeed) refl
     go true e = simp e
     go false e = simp e (into-some ts n b (linesOf u))
 
-end-run : (ts : Meant.Table) (line : ℕ) (t : List ℕ) → endDigits < length t → frameThen EndTaken (tableRecord ts) line (length t) (λ v e. refusedRecord WrongFrame line) ≡ readingRecord (atEnd ts (suc line) (linesOf (drop endBytes t)))
+abbrev EndReads : Meant.Table → ℕ → List ℕ → Type 0
+EndReads ts line t =
+    frameThen EndTaken (tableRecord ts) line (length t) (λ v e. refusedRecord WrongFrame line)
+    ≡ readingRecord (atEnd ts (suc line) (linesOf (drop endBytes t)))
+
+end-run : (ts : Meant.Table) (line : ℕ) (t : List ℕ) → endDigits < length t → EndReads ts line t
 end-run ts line t h = go (eqb (length t) endBytes) refl
   where
-    go : (x : Bool) → eqb (length t) endBytes ≡ x → frameThen EndTaken (tableRecord ts) line (length t) (λ v e. refusedRecord WrongFrame line) ≡ readingRecord (atEnd ts (suc line) (linesOf (drop endBytes t)))
+    go : (x : Bool) → eqb (length t) endBytes ≡ x → EndReads ts line t
     go true e =
         let k : length t ≤ endBytes = omega (arith, eqb-true (length t) endBytes e) in
         let d : drop endBytes t ≡ [] = drop-of-length-le t k in
@@ -57,60 +63,79 @@ end-run ts line t h = go (eqb (length t) endBytes) refl
 
 -- ---- the tasks
 
--- the tasks ts, and another with the vertices X and the edges E, are read
-abbrev state : List Meant.Task → List Meant.Vertex → List Meant.Edge → Begun
-state ts X E = record { tasks = ts; vertices = X; edges = E; wantV = 0; wantE = 0 }
+-- all tasks, where ts and then k are read
+abbrev having : List Meant.Task → Meant.Task → List Meant.Task
+having ts k = closed (begun ts k 0 0)
 
-closed-some : (ts : List Meant.Task) (X : List Meant.Vertex) (E : List Meant.Edge) → 0 < length X → closed (state ts X E) ≡ ts ++ (record { vertices = X; edges = E } ∷ [])
-closed-some ts [] E h = absurd (omega arith)
-closed-some ts (x ∷ X) E h = refl
+having-some : (ts : List Meant.Task) (vs : List Meant.Vertex) (es : List Meant.Edge) → 0 < length vs
+    → having ts (Meant.task vs es) ≡ ts ++ (Meant.task vs es ∷ [])
+having-some ts [] es h = absurd (omega arith)
+having-some ts (x ∷ vs) es h = refl
 
 -- the text from a task's line on is read as it means
 abbrev Going : ℕ → Type 0
-Going g = (ts : List Meant.Task) (X : List Meant.Vertex) (E : List Meant.Edge) (line : ℕ) (t : List ℕ) → length (closed (state ts X E)) + g ≡ mostTasks → tasksOn g (tableRecord (closed (state ts X E))) line t ≡ readingRecord (readFrom (state ts X E) line (linesOf t))
+Going g =
+    (ts : List Meant.Task) (k : Meant.Task) (line : ℕ) (t : List ℕ) → length (having ts k) + g ≡ mostTasks
+    → tasksOn g (tableRecord (having ts k)) line t ≡ readingRecord (readFrom (begun ts k 0 0) line (linesOf t))
 
 module _ (g : ℕ) (ih : Going g) (ts : List Meant.Task) (line v e : ℕ) (t : List ℕ) (count : length ts + suc g ≡ mostTasks) (m : TaskBounds v e) where
   abbrev behind : List ℕ
   behind = drop ((v + e) * partBytes) (drop taskBytes t)
 
-  with-task : (R : Text.Reading) (a : TaskLines) → TaskGives R ts (suc line) v e behind a → linesThen (a .outcome) (line + 1 + a .count) (tasksOn g (putTask (tableRecord ts) (a .task)) (line + 1 + v + e) (drop (taskBytes + (v + e) * partBytes) t)) ≡ readingRecord R
-  with-task R a (no-task w i q) =
+  one-more : (k : Meant.Task) → putTask (tableRecord ts) (taskRecord k) ≡ tableRecord (ts ++ (k ∷ []))
+  one-more k =
+      let ln : length (ts ++ (k ∷ [])) ≡ length ts + 1 = length-append ts (k ∷ []) in
+      simp (ln, padded-set mostTasks noTask taskRecord ts k (omega arith))
+
+  with-task : (R : Text.Reading) (a : TaskLines) → TaskGives R ts (suc line) v e behind a
+      → linesThen (a .outcome) (line + 1 + a .count)
+      (tasksOn g (putTask (tableRecord ts) (a .task)) (line + 1 + v + e) (drop (taskBytes + (v + e) * partBytes) t))
+      ≡ readingRecord R
+  with-task R a (task-stopped w i q) =
       let o : suc line + i ≡ line + 1 + i = omega arith in
       simp (q, refusal-of-number, o)
   with-task R a (whole-task k lv q) =
-      let c : closed (state ts (k .vertices) (k .edges)) ≡ ts ++ (k ∷ []) = closed-some ts (k .vertices) (k .edges) (omega (arith, m .some)) in
-      let ln : length (ts ++ (k ∷ [])) ≡ length ts + 1 = length-snoc ts k in
-      let p : set (padded mostTasks noTask (map taskRecord ts)) (length ts) (taskRecord k) ≡ padded mostTasks noTask (map taskRecord (ts ++ (k ∷ []))) = padded-set mostTasks noTask taskRecord ts k (omega arith) in
+      let c : having ts k ≡ ts ++ (k ∷ []) = having-some ts (k .vertices) (k .edges) (omega (arith, m .some)) in
+      let ln : length (ts ++ (k ∷ [])) ≡ length ts + 1 = length-append ts (k ∷ []) in
       let o : line + 1 + v + e ≡ suc line + v + e = omega arith in
       let d : drop (taskBytes + (v + e) * partBytes) t ≡ behind = sym (drop-drop ((v + e) * partBytes) taskBytes t) in
-      let s : length (closed (state ts (k .vertices) (k .edges))) + g ≡ mostTasks = omega (arith, ap length c) in
-      let f : putTask (tableRecord ts) (taskRecord k) ≡ tableRecord (ts ++ (k ∷ [])) = simp (ln, p) in
-      let u : putTask (tableRecord ts) (taskRecord k) ≡ tableRecord (closed (state ts (k .vertices) (k .edges))) = f ∙ ap tableRecord (sym c) in
-      simp (u, o, d) (ih ts (k .vertices) (k .edges) (suc line + v + e) behind s ∙ ap readingRecord (sym q))
+      let s : length (having ts k) + g ≡ mostTasks = omega (arith, ap length c) in
+      let u : putTask (tableRecord ts) (taskRecord k) ≡ tableRecord (having ts k) = one-more k ∙ ap tableRecord (sym c) in
+      simp (u, o, d) (ih ts k (suc line + v + e) behind s ∙ ap readingRecord (sym q))
 
-module _ (ts : List Meant.Task) (X : List Meant.Vertex) (E : List Meant.Edge) (line : ℕ) (t : List ℕ) where
+module _ (ts : List Meant.Task) (k : Meant.Task) (line : ℕ) (t : List ℕ) where
   abbrev have : List Meant.Task
-  have = closed (state ts X E)
+  have = having ts k
+
+  abbrev next : TaskOrEndLine
+  next = taskOrEndLine (length have) t
 
   abbrev task : ℕ → ℕ → Text.Reading
-  task v e = readFrom (record { tasks = have; vertices = []; edges = []; wantV = v; wantE = e }) (suc line) (linesOf (drop taskBytes t))
+  task v e = readFrom (begun have (Meant.task [] []) v e) (suc line) (linesOf (drop taskBytes t))
 
-  frame-run : (K : ℕ → ℕ → Reading) → ((v e : ℕ) → taskOrEndLine (length have) t ≡ TaskTaken v e → K v e ≡ readingRecord (task v e)) → frameThen (taskOrEndLine (length have) t) (tableRecord have) line (length t) K ≡ readingRecord (readFrom (state ts X E) line (linesOf t))
-  frame-run K h = go (taskOrEndLine (length have) t) refl ∙ ap readingRecord (sym (task-or-end-read ts X E line t))
+  abbrev ending : Text.Reading
+  ending = atEnd have (suc line) (linesOf (drop endBytes t))
+
+  frame-run : (K : ℕ → ℕ → Reading) → ((v e : ℕ) → next ≡ TaskTaken v e → K v e ≡ readingRecord (task v e))
+      → frameThen next (tableRecord have) line (length t) K ≡ readingRecord (readFrom (begun ts k 0 0) line (linesOf t))
+  frame-run K h = go next refl ∙ ap readingRecord (sym (task-or-end-read ts k line t))
     where
-      go : (x : TaskOrEndLine) → taskOrEndLine (length have) t ≡ x → frameThen (taskOrEndLine (length have) t) (tableRecord have) line (length t) K ≡ readingRecord (frameGives (taskOrEndLine (length have) t) line task (atEnd have (suc line) (linesOf (drop endBytes t))))
+      go : (x : TaskOrEndLine) → next ≡ x
+          → frameThen next (tableRecord have) line (length t) K ≡ readingRecord (frameGives next line task ending)
       go (FrameRefused w) q = simp (q, refusal-of-number)
       go EndTaken q = simp q (end-run have line t (end-long (length have) t q))
       go (TaskTaken v e) q = simp q (h v e q)
 
 tasks-run : (g : ℕ) → Going g
 unfolding tasksOn
-tasks-run zero ts X E line t s = frame-run ts X E line t (λ v e. refusedRecord WrongFrame line) (λ v e q. absurd (omega (arith, task-has (length (closed (state ts X E))) v e t q .fits)))
-tasks-run (suc g) ts X E line t s =
-    frame-run ts X E line t _
+tasks-run zero ts k line t s =
+    frame-run ts k line t (λ v e. refusedRecord WrongFrame line) (λ v e q. absurd (omega (arith, task-has (length (having ts k)) v e t q .fits)))
+tasks-run (suc g) ts k line t s =
+    frame-run ts k line t _
     (λ v e q.
-    let m : TaskBounds v e = task-has (length (closed (state ts X E))) v e t q .bounds in
-    with-task g (λ a b c d f h. tasks-run g a b c d f h) (closed (state ts X E)) line v e t s m (task ts X E line t v e) (taskLines v e (drop taskBytes t)) (task-run (closed (state ts X E)) (suc line) v e (drop taskBytes t) (m .v-in) (m .e-in)))
+    let m = task-has (length (having ts k)) v e t q .bounds in
+    with-task g (λ a b c d h. tasks-run g a b c d h) (having ts k) line v e t s m (task ts k line t v e) (taskLines v e (drop taskBytes t))
+    (task-run (having ts k) (suc line) v e (drop taskBytes t) (m .v-in) (m .e-in)))
 
 no-tasks : tableRecord [] ≡ noTable
 unfolding padded
@@ -118,4 +143,4 @@ no-tasks = refl
 
 pub whole : (text : List ℕ) → wholeText text ≡ readingRecord (read text)
 unfolding read
-whole text = rw (← no-tasks) (tasks-run mostTasks [] [] [] 1 text (omega arith))
+whole text = rw (← no-tasks) (tasks-run mostTasks [] (Meant.task [] []) 1 text (omega arith))

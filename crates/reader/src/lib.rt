@@ -3,23 +3,19 @@
 //
 // The reader goes down by task: a line is tested for just the frame that must stand there, and looked through for its refusal only where
 // that fails. Each line that is taken has as many bytes as its frame, so that places in the text and line numbers are sums.
+use frames::END_BYTES;
+use frames::PART_BYTES;
+use frames::TASK_BYTES;
+use frames::TaskOrEndLine;
 use kinds::Refusal;
 use kinds::RefusedAt;
 use lines::Outcome;
-use lines::TaskOrEndLine;
 use table::Table;
 ghost use mathlib.Core.Path.{_≡_};
 ghost use Prim.Native.Nat.{_≤_};
 ghost use Rattle.meaning.specs.Text.{read, packed};
 ghost use Rattle.meaning.specs.Demands.{lastLine};
 ghost use Rattle.reader.specs.Record.{refusedRecord, readingRecord};
-
-mod parts; // parts.rt: the lines of a task
-
-// The bytes of a task's line, and of the end's.
-const TASK_BYTES: usize = 7;
-
-const END_BYTES: usize = 3;
 
 pub enum Status {
     Readable,
@@ -49,7 +45,7 @@ pub(crate) fn refused(refusal: Refusal, line: usize) -> Reading
 pub fn read(text: &[u8]) -> Reading
     ensures { λ r. ⌜ r ≡ readingRecord (read (now (text .entry))) ⌝ }
 {
-    let worths = frames::digits::worths();
+    let worths = digits::worths();
     let mut table = table::no_table();
     let mut at = 0;
     let mut line = 1;
@@ -68,16 +64,16 @@ pub fn read(text: &[u8]) -> Reading
                 };
             }
             TaskOrEndLine::TaskTaken(v, e) => {
-                let lines = parts::read_task(&worths, text, at + TASK_BYTES, v, e);
-                let outcome = lines.outcome;
+                let taken = lines::read_task(&worths, text, at + TASK_BYTES, v, e);
+                let outcome = taken.outcome;
                 if let Outcome::StoppedBy(refusal) = outcome {
-                    return refused(refusal, line + 1 + lines.count);
+                    return refused(refusal, line + 1 + taken.count);
                 }
-                let task = lines.task;
+                let task = taken.task;
                 table.tasks[k] = task;
                 table.n = k + 1;
                 line = line + 1 + v + e;
-                at = at + TASK_BYTES + (v + e) * parts::PART_BYTES;
+                at = at + TASK_BYTES + (v + e) * PART_BYTES;
             }
         }
     }

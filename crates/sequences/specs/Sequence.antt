@@ -1,15 +1,21 @@
--- Where a text of a sequence ends. Assumes nothing.
+-- Where a case of a sequence ends. Assumes nothing.
 use Prim.Native.Nat.{ℕ, _+_, _*_, min}
 use mathlib.Core.List.{List}
 use lib.ListN.{length, getD, replicate}
 
--- the number in the 4 bytes at a place
-abbrev pub textLength : List ℕ → ℕ → ℕ
-textLength s at = (getD s at 0 * 256 + getD s (at + 1) 0) * 65536 + (getD s (at + 2) 0 * 256 + getD s (at + 3) 0)
+abbrev pub headerBytes : ℕ
+headerBytes = 19
 
--- so many bytes behind its length, or the sequence's end
-abbrev pub textEnd : List ℕ → ℕ → ℕ
-textEnd s at = min (length s) (at + 4 + textLength s at)
+abbrev pub roomBytes : ℕ
+roomBytes = 1048576
+
+-- the number in the 4 bytes at a place
+abbrev pub numberAt : List ℕ → ℕ → ℕ
+numberAt s at = (getD s at 0 * 256 + getD s (at + 1) 0) * 65536 + (getD s (at + 2) 0 * 256 + getD s (at + 3) 0)
+
+-- behind the header as many bytes as its second to fifth say, or the sequence's end
+abbrev pub caseEnd : List ℕ → ℕ → ℕ
+caseEnd s at = min (length s) (at + headerBytes + numberAt s (at + 1))
 
 -- so many zeros
 unfoldable pub zeros : ℕ → List ℕ

@@ -1,10 +1,10 @@
 -- A record stands for the table that it is the record of. Assumes nothing.
 use mathlib.Core.Path.{_≡_, refl, ap, ap₂, _∙_}
-use Prim.Native.Nat.{ℕ, _-_, _<_, suc, _≤_}
-use mathlib.Core.List.{List, [], _∷_, map}
+use Prim.Native.Nat.{ℕ, _+_, _-_, _<_, suc, _≤_}
+use mathlib.Core.List.{List, [], _∷_, _++_, map, append-assoc}
 use native.Mathlib.Omega.{arith}
-use lib.ListN.{length-append, length-replicate, length, take, replicate, getD, List·getD-append}
-use lib.Seq.{take-at}
+use lib.ListN.{length-append, length-replicate, length, take, set, replicate, getD, List·getD-append}
+use lib.Seq.{take-at, set-append-seam}
 use Rattle.meaning.specs.Bounds.{mostTasks, mostVertices, mostEdges}
 use Rattle.meaning.specs.Table as Meant
 use Rattle.table.specs.declared.Task.{Task}
@@ -23,6 +23,13 @@ pub length-padded : {X : Type 0} (n : ℕ) (z : X) (xs : List X) → length xs �
 unfolding padded
 length-padded n z xs h = omega (arith, length-append xs (replicate (n - length xs) z), length-replicate (n - length xs) z)
 
+-- one more, at the first free place
+pub padded-more : {X : Type 0} (n : ℕ) (z : X) (xs : List X) (x : X) → length xs < n → set (padded n z xs) (length xs) x ≡ padded n z (xs ++ (x ∷ []))
+unfolding padded
+padded-more n z xs x h =
+    let e : n - length xs ≡ suc (n - (length xs + 1)) = omega arith in
+    rw (e, set-append-seam, length-append, append-assoc)
+
 -- what f makes of each element, undone by g
 undone : {X Y : Type 0} (f : X → Y) (g : Y → X) → ((x : X) → g (f x) ≡ x) → (xs : List X) → map g (map f xs) ≡ xs
 undone f g h [] = refl
@@ -37,7 +44,7 @@ unpadded {X} {Y} f g h n z xs = ap (λ (k : ℕ). map g (take k (padded n z (map
 
 pub task-of-record : (k : Meant.Task) → taskOf (taskRecord k) ≡ k
 task-of-record k =
-    ap₂ {C = Meant.Task} (λ (vs : List Meant.Vertex) (es : List Meant.Edge). record { vertices = vs; edges = es })
+    ap₂ Meant.task
     (unpadded vertexRecord vertexOf (λ x. refl) mostVertices noVertex (k .vertices)) (unpadded edgeRecord edgeOf (λ x. refl) mostEdges noEdge (k .edges))
 
 pub table-of-record : (ts : Meant.Table) → tableOf (tableRecord ts) ≡ ts

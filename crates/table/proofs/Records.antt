@@ -7,20 +7,17 @@ use lib.ListN.{length, getD, length-map}
 use Rattle.meaning.specs.Bounds.{mostTasks}
 use Rattle.meaning.specs.Table as Meant
 use Rattle.meaning.specs.Table.{noTask, taskAt}
-use Rattle.meaning.specs.Sound.{SoundTask, SoundTable}
+use Rattle.meaning.specs.Sound.{SoundTask}
 use Rattle.meaning.proofs.Lists.{mem-getD, getD-mapped}
 use Rattle.table.specs.declared.Task.{Task}
 use Rattle.table.specs.declared.Table.{Table}
-use Rattle.table.specs.Record.{taskRecord, tableRecord, tableOf, taskOf, HeldTask, Held}
+use Rattle.table.specs.Record.{taskRecord, tableOf, taskOf, HeldTask, Held}
 use Rattle.table.specs.Record as Blank
-use Rattle.table.proofs.Record.{getD-padded, length-padded, table-of-record, task-of-record}
+use Rattle.table.proofs.Record.{getD-padded, task-of-record}
 
--- the record of a sound task is held, and that of a sound table
+-- the record of a sound task is held
 pub held-task-record : (k : Meant.Task) → SoundTask k → HeldTask (taskRecord k)
 held-task-record k s = record { whole = ap taskRecord (sym (task-of-record k)); sound = subst SoundTask (sym (task-of-record k)) s }
-
-pub held-record : (ts : Meant.Table) → SoundTable ts → Held (tableRecord ts)
-held-record ts s = record { whole = ap tableRecord (sym (table-of-record ts)); sound = subst SoundTable (sym (table-of-record ts)) s }
 
 module _ (t : Table) (k : Held t) where
   abbrev ts : Meant.Table
@@ -31,9 +28,6 @@ module _ (t : Table) (k : Held t) where
 
   pub held-few : t .n ≤ mostTasks
   held-few = omega (arith, held-count, k .sound .taskCount)
-
-  pub held-cells : length (t .tasks) ≡ mostTasks
-  held-cells = ap (λ (x : Table). length (x .tasks)) (k .whole) ∙ length-padded mostTasks Blank.noTask (map taskRecord ts) (omega (arith, length-map ts taskRecord, k .sound .taskCount))
 
   -- the task at place j, whatever is read where there is none
   pub held-task : (z : Task) (j : ℕ) → j < t .n → getD (t .tasks) j z ≡ taskRecord (taskAt ts j)

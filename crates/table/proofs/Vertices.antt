@@ -13,14 +13,14 @@ use Rattle.meaning.proofs.Lists.{mem-getD, getD-mapped}
 use Rattle.table.specs.declared.Vertex.{Vertex}
 use Rattle.table.specs.declared.Task.{Task}
 use Rattle.table.specs.declared.Table.{Table}
-use Rattle.table.specs.Record.{vertexRecord, tableOf, Held}
+use Rattle.table.specs.Record.{taskCells, vertexRecord, tableOf, Held}
 use Rattle.table.specs.Record as Blank
 use Rattle.table.proofs.Record.{getD-padded, length-padded}
 use Rattle.table.proofs.Records.{held-task, held-sound}
 
 -- what is read where there is no task
 abbrev blankTask : Task
-blankTask = record { nv = 0; ne = 0; vertices = []; edges = [] }
+blankTask = taskCells 0 0 [] []
 
 abbrev pub ownTask : Table → ℕ → Task
 ownTask t i = getD (t .tasks) i blankTask

@@ -19,16 +19,27 @@ ticks n = record { 0 = n }
 abbrev pub vertexNumber : ℕ → VertexNumber
 vertexNumber n = record { 0 = n }
 
+-- ---- each from its parts
+
+abbrev pub vertexCells : ℕ → ℕ → Vertex
+vertexCells e d = record { e = ticks e; d = ticks d }
+
+abbrev pub edgeCells : ℕ → ℕ → ℕ → Edge
+edgeCells from to p = record { from = vertexNumber from; to = vertexNumber to; p = ticks p }
+
+abbrev pub taskCells : ℕ → ℕ → List Vertex → List Edge → Task
+taskCells nv ne vs es = record { nv = nv; ne = ne; vertices = vs; edges = es }
+
 -- ---- with nothing in them
 
 abbrev pub noVertex : Vertex
-noVertex = record { e = ticks 0; d = ticks 0 }
+noVertex = vertexCells 0 0
 
 abbrev pub noEdge : Edge
-noEdge = record { from = vertexNumber 0; to = vertexNumber 0; p = ticks 0 }
+noEdge = edgeCells 0 0 0
 
 abbrev pub noTask : Task
-noTask = record { nv = 0; ne = 0; vertices = replicate mostVertices noVertex; edges = replicate mostEdges noEdge }
+noTask = taskCells 0 0 (replicate mostVertices noVertex) (replicate mostEdges noEdge)
 
 abbrev pub noTable : Table
 noTable = record { n = 0; tasks = replicate mostTasks noTask }
@@ -40,10 +51,10 @@ unfoldable pub padded : {X : Type 0} → ℕ → X → List X → List X
 padded n z xs = xs ++ replicate (n - length xs) z
 
 abbrev pub vertexRecord : Meant.Vertex → Vertex
-vertexRecord x = record { e = ticks (x .e); d = ticks (x .d) }
+vertexRecord x = vertexCells (x .e) (x .d)
 
 abbrev pub edgeRecord : Meant.Edge → Edge
-edgeRecord x = record { from = vertexNumber (x .from); to = vertexNumber (x .to); p = ticks (x .p) }
+edgeRecord x = edgeCells (x .from) (x .to) (x .p)
 
 abbrev pub verticesRecord : List Meant.Vertex → List Vertex
 verticesRecord vs = padded mostVertices noVertex (map vertexRecord vs)
@@ -52,7 +63,7 @@ abbrev pub edgesRecord : List Meant.Edge → List Edge
 edgesRecord es = padded mostEdges noEdge (map edgeRecord es)
 
 abbrev pub taskRecord : Meant.Task → Task
-taskRecord k = record { nv = length (k .vertices); ne = length (k .edges); vertices = verticesRecord (k .vertices); edges = edgesRecord (k .edges) }
+taskRecord k = taskCells (length (k .vertices)) (length (k .edges)) (verticesRecord (k .vertices)) (edgesRecord (k .edges))
 
 abbrev pub tableRecord : Meant.Table → Table
 tableRecord ts = record { n = length ts; tasks = padded mostTasks noTask (map taskRecord ts) }
@@ -60,13 +71,13 @@ tableRecord ts = record { n = length ts; tasks = padded mostTasks noTask (map ta
 -- ---- the table that a record stands for
 
 abbrev pub vertexOf : Vertex → Meant.Vertex
-vertexOf x = record { e = x .e .0; d = x .d .0 }
+vertexOf x = Meant.vertex (x .e .0) (x .d .0)
 
 abbrev pub edgeOf : Edge → Meant.Edge
-edgeOf x = record { from = x .from .0; to = x .to .0; p = x .p .0 }
+edgeOf x = Meant.edge (x .from .0) (x .to .0) (x .p .0)
 
 abbrev pub taskOf : Task → Meant.Task
-taskOf k = record { vertices = map vertexOf (take (k .nv) (k .vertices)); edges = map edgeOf (take (k .ne) (k .edges)) }
+taskOf k = Meant.task (map vertexOf (take (k .nv) (k .vertices))) (map edgeOf (take (k .ne) (k .edges)))
 
 abbrev pub tableOf : Table → Meant.Table
 tableOf t = map taskOf (take (t .n) (t .tasks))

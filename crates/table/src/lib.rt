@@ -6,7 +6,7 @@ use bounds::MOST_VERTICES;
 use kinds::Ticks;
 use kinds::VertexNumber;
 ghost use mathlib.Core.Path.{_≡_};
-ghost use Rattle.table.specs.Record.{noVertex, noEdge, noTask, noTable};
+ghost use Rattle.table.specs.Record.{taskCells, noVertex, noEdge, noTask, noTable};
 
 pub struct Vertex {
     pub e: Ticks,
@@ -19,7 +19,7 @@ pub struct Edge {
     pub p: Ticks,
 }
 
-// nv vertices and ne edges.
+// nv vertices and ne edges; only `task_of` makes one.
 pub struct Task {
     pub nv: usize,
     pub ne: usize,
@@ -52,17 +52,29 @@ pub fn no_edge() -> Edge
     }
 }
 
+// A task from its parts.
+pub fn task_of(
+    nv: usize,
+    ne: usize,
+    vertices: [Vertex; MOST_VERTICES],
+    edges: [Edge; MOST_EDGES],
+) -> Task
+    ensures { λ r. ⌜ r ≡ taskCells nv ne vertices edges ⌝ }
+{
+    Task {
+        nv,
+        ne,
+        vertices,
+        edges,
+    }
+}
+
 pub fn no_task() -> Task
     ensures { λ r. ⌜ r ≡ noTask ⌝ }
 {
     let x = no_vertex();
     let y = no_edge();
-    Task {
-        nv: 0,
-        ne: 0,
-        vertices: [x; MOST_VERTICES],
-        edges: [y; MOST_EDGES],
-    }
+    task_of(0, 0, [x; MOST_VERTICES], [y; MOST_EDGES])
 }
 
 pub fn no_table() -> Table

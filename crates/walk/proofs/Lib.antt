@@ -1,11 +1,3 @@
-pub mod Halving
-pub mod Pending
-pub mod RowPlaces
-pub mod Ticks
-pub mod Arrays
-pub mod TopGroup
-pub mod FirstChild
-pub mod NextGroup
 pub mod Stepping
 pub mod Running
 pub mod Paths

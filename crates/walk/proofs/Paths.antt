@@ -12,12 +12,14 @@ use Rattle.meaning.specs.Groups as Meant
 use Rattle.meaning.specs.Groups.{half, firstPart, secondPart, long, single, groupLoads, overloads}
 use Rattle.meaning.specs.Walk.{heads}
 use Rattle.meaning.proofs.Lists.{drop-take}
-use Rattle.walk.specs.Ranges.{Range, endOf, firstHalf, secondHalf, firsts, topGroup, allSingle, childBy, InWalk}
+use Rattle.rows.specs.Ranges.{Range, endOf, firstHalf, secondHalf}
+use Rattle.groups.specs.Groups.{firsts, topGroup, allSingle, childBy, InWalk, rowStarts}
 use Rattle.rows.specs.Order.{Node}
-use Rattle.walk.specs.Rows.{loadsAt, rowStarts, rowsOverload, groupOverloads}
+use Rattle.overload.specs.Rows.{loadsAt, rowsOverload}
+use Rattle.walk.specs.Steps.{groupOverloads}
 use Rattle.walk.specs.Told.{sizes, partOf, chosen, AtPaths, RowsHold}
 use Rattle.rows.proofs.Order.{node-in, node-pos}
-use Rattle.walk.proofs.Ticks.{exceeds-same}
+use Rattle.overload.proofs.Ticks.{exceeds-same}
 
 module _ {X : Type 0} where
   abbrev pub groupOf : List (List X) → List Range → List (List X)
@@ -72,7 +74,8 @@ module _ {X : Type 0} where
   pub group-first-child : (Gs : List (List X)) (xs : List Range) → InWalk (sizes Gs) xs → groupOf Gs (childBy firstHalf xs) ≡ Meant.firstChild (groupOf Gs xs)
   group-first-child = group-child firstHalf firstPart first-half
 
-  pub group-second-child : (Gs : List (List X)) (xs : List Range) → InWalk (sizes Gs) xs → groupOf Gs (childBy secondHalf xs) ≡ Meant.secondChild (groupOf Gs xs)
+  pub group-second-child : (Gs : List (List X)) (xs : List Range) → InWalk (sizes Gs) xs
+      → groupOf Gs (childBy secondHalf xs) ≡ Meant.secondChild (groupOf Gs xs)
   group-second-child = group-child secondHalf secondPart second-half
 
   pub group-top : (Gs : List (List X)) → groupOf Gs (topGroup (sizes Gs)) ≡ Gs
@@ -85,7 +88,8 @@ module _ {X : Type 0} where
   heads-one [] g = refl
   heads-one (x ∷ l) g = refl
 
-  pub chosen-heads : (Gs : List (List X)) (xs : List Range) (more : List ℕ) → InWalk (sizes Gs) xs → allSingle xs ≡ true → heads (groupOf Gs xs) ≡ chosen Gs (firsts xs ++ more)
+  pub chosen-heads : (Gs : List (List X)) (xs : List Range) (more : List ℕ) → InWalk (sizes Gs) xs → allSingle xs ≡ true
+      → heads (groupOf Gs xs) ≡ chosen Gs (firsts xs ++ more)
   chosen-heads [] [] more o q = refl
   chosen-heads [] (x ∷ xs) more o q = absurd o
   chosen-heads (G ∷ Gs) [] more o q = absurd o
@@ -107,7 +111,8 @@ module _ {X : Type 0} where
 -- ---- rows that hold the ranges' loads
 
 module _ {X : Type 0} (load : X → ℕ → ℕ) (work : List ℕ) (d : ℕ) where
-  loads-are : (Gs : List (List X)) (root : List ℕ) (xs : List Range) (t : ℕ) → length Gs ≤ length root → RowsHold load d work root Gs → InWalk (sizes Gs) xs → t < d
+  loads-are : (Gs : List (List X)) (root : List ℕ) (xs : List Range) (t : ℕ) → length Gs ≤ length root
+      → RowsHold load d work root Gs → InWalk (sizes Gs) xs → t < d
       → loadsAt work (rowStarts d (take (length Gs) root) xs) t ≡ groupLoads load (groupOf Gs xs) (suc t)
   unfolding loadsAt
   loads-are [] root xs t n w o l = refl
@@ -117,7 +122,8 @@ module _ {X : Type 0} (load : X → ℕ → ℕ) (work : List ℕ) (d : ℕ) whe
       ap₂ (λ (a b : ℕ). a + b) (w 0 (omega arith) (x .first) (x .len) (o .1) t l)
       (loads-are Gs root xs t (omega arith) (λ j k. w (suc j) (omega arith)) (o .3) l)
 
-  pub overloads-are : (e : ℕ) (Gs : List (List X)) (root : List ℕ) → length Gs ≤ length root → RowsHold load d work root Gs → (xs : List Range) → InWalk (sizes Gs) xs
+  pub overloads-are : (e : ℕ) (Gs : List (List X)) (root : List ℕ) → length Gs ≤ length root → RowsHold load d work root Gs
+      → (xs : List Range) → InWalk (sizes Gs) xs
       → groupOverloads work d e (take (length Gs) root) xs ≡ overloads load e d (groupOf Gs xs)
   unfolding rowsOverload overloads
   overloads-are e Gs root n w xs o =

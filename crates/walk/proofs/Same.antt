@@ -16,20 +16,22 @@ use Rattle.meaning.specs.Walk.{Outcome, ended, cut, run}
 use Rattle.meaning.proofs.Lists.{both}
 use Rattle.meaning.proofs.Groups.{full}
 use Rattle.meaning.proofs.Run.{run-quiet, run-hit, run-split, run-top, run-top-short}
+use Rattle.walk.specs.declared.Examined.the-variants.{Last}
 use Rattle.walk.specs.declared.Ending.the-variants.{Meets, Misses, Unfinished}
 use Rattle.walk.specs.declared.Walked.{Walked}
-use Rattle.walk.specs.Ranges.{Range, firsts, topGroup, allSingle, firstChild, nextGroup, InWalk}
-use Rattle.walk.specs.Steps.{Step, descend, onwardBy, walked, runBy, runFrom}
+use Rattle.rows.specs.Ranges.{Range}
+use Rattle.groups.specs.Groups.{firsts, topGroup, allSingle, firstChild, nextGroup, InWalk}
+use Rattle.walk.specs.Steps.{WalkStep, stepBy, descend, walkEnd, runBy, runFrom}
 use Rattle.walk.specs.Told.{sizes, chosen, AtPaths, Says}
-use Rattle.walk.proofs.Pending.{Filled, filled-top, walk-child, pending, pending-top, pending-child, FirstPending, next-pending}
+use Rattle.groups.proofs.Pending.{Filled, filled-top, walk-child, pending, pending-top, pending-child, FirstPending, next-pending}
 use Rattle.walk.proofs.Paths.{groupOf, group-single, group-first-child, group-second-child, group-top, chosen-heads, firsts-at-paths}
 
 module _ {X : Type 0} where
   -- the answer r gives an outcome of the walk over paths, with k steps allowed in all
   abbrev Gives : List (List X) → ℕ → Outcome X → Walked → Type 0
-  Gives Gs k (ended n none) r = r ≡ walked (Meets n) []
-  Gives Gs k (ended n (some w)) r = (ps : List ℕ) × (r ≡ walked (Misses n) ps) × (w ≡ chosen Gs (r .places)) × AtPaths Gs (r .places)
-  Gives Gs k cut r = r ≡ walked (Unfinished k) []
+  Gives Gs k (ended n none) r = r ≡ walkEnd (Meets n) []
+  Gives Gs k (ended n (some w)) r = (ps : List ℕ) × (r ≡ walkEnd (Misses n) ps) × (w ≡ chosen Gs (r .places)) × AtPaths Gs (r .places)
+  Gives Gs k cut r = r ≡ walkEnd (Unfinished k) []
 
   sizes-full : (Gs : List (List X)) → Filled (sizes Gs) → T (full Gs)
   sizes-full [] p = tt
@@ -53,7 +55,9 @@ module _ {X : Type 0} (load : X → ℕ → ℕ) (e d : ℕ) (Gs : List (List X)
 
   -- what a step leaves to do
   further : (b n : ℕ) (r : Walked) (o p : Outcome X) → o ≡ p → Gives Gs (suc n + b) p r → Gives Gs (n + suc b) o r
-  further b n r o p q g = let k : suc n + b ≡ n + suc b = omega arith in subst (λ (m : ℕ). Gives Gs m o r) k (subst (λ (z : Outcome X). Gives Gs (suc n + b) z r) (sym q) g)
+  further b n r o p q g =
+      let k : suc n + b ≡ n + suc b = omega arith in
+      subst (λ (m : ℕ). Gives Gs m o r) k (subst (λ (z : Outcome X). Gives Gs (suc n + b) z r) (sym q) g)
 
   children : (xs : List Range) → InWalk ns xs → allSingle xs ≡ false
       → Meant.firstChild (groupOf Gs xs) ∷ Meant.secondChild (groupOf Gs xs) ∷ behind xs ≡ groupOf Gs (firstChild xs) ∷ behind (firstChild xs)
@@ -62,15 +66,15 @@ module _ {X : Type 0} (load : X → ℕ → ℕ) (e d : ℕ) (Gs : List (List X)
       ∙ ap (λ (r : List (List X)). Meant.firstChild (groupOf Gs xs) ∷ r ∷ behind xs) (group-second-child Gs xs o))
 
   alike : (b n : ℕ) (xs : List Range) → InWalk ns xs → Alike b n xs
-  alike zero n xs o = ap (λ (k : ℕ). walked (Unfinished k) []) (sym (add-zero n))
+  alike zero n xs o = ap (λ (k : ℕ). walkEnd (Unfinished k) []) (sym (add-zero n))
   alike (suc b) n xs o = go (over xs) refl (allSingle xs) refl (nextGroup ns xs) (next-pending ns xs o) (λ ys p. alike b (suc n) ys p)
     where
-      step-by : Step → Walked
+      step-by : WalkStep → Walked
       step-by s = runBy n (λ (ys : List Range). runFrom over ns b (suc n) ys) (s .told) (s .group)
 
       go : (v : Bool) → over xs ≡ v → (s : Bool) → allSingle xs ≡ s → (f : Option (List Range)) → FirstPending ns xs f
           → ((ys : List Range) → InWalk ns ys → Alike b (suc n) ys)
-          → Gives Gs (n + suc b) (run load e d (suc b) (groupOf Gs xs ∷ behind xs) n) (step-by (pick (over xs) (descend xs) (onwardBy ns f)))
+          → Gives Gs (n + suc b) (run load e d (suc b) (groupOf Gs xs ∷ behind xs) n) (step-by (pick (over xs) (descend xs) (stepBy Last (topGroup ns) f)))
       go false h s q none a ih =
           rw h (further b n _ _ _ (run-quiet load e d b n (groupOf Gs xs) (behind xs) (sym (same xs o) ∙ h)
           ∙ ap (λ (z : List (List Range)). run load e d b (map (groupOf Gs) z) (suc n)) a ∙ run-none b (suc n)) refl)
@@ -96,9 +100,12 @@ module _ {X : Type 0} (load : X → ℕ → ℕ) (e d : ℕ) (Gs : List (List X)
   run-says b p r s = go (ltb b (count load e d Gs)) refl
     where
       gives : (o : Outcome X) → run load e d b (Gs ∷ []) 0 ≡ o → Gives Gs b o r
-      gives o q = subst (λ (z : Walked). Gives Gs b o z) (sym s) (subst (λ (z : Outcome X). Gives Gs b z (runFrom over ns b 0 (topGroup ns))) q (whole b p))
+      gives o q =
+          subst (λ (z : Walked). Gives Gs b o z) (sym s)
+          (subst (λ (z : Outcome X). Gives Gs b z (runFrom over ns b 0 (topGroup ns))) q (whole b p))
 
-      finished : count load e d Gs ≤ b → (w : Option (List X)) → witness load e d Gs ≡ w → Gives Gs b (ended (count load e d Gs) w) r → Says load e d b Gs (r .ending) (r .places)
+      finished : count load e d Gs ≤ b → (w : Option (List X)) → witness load e d Gs ≡ w
+          → Gives Gs b (ended (count load e d Gs) w) r → Says load e d b Gs (r .ending) (r .places)
       finished l none q g = subst (λ (z : Walked). Says load e d b Gs (z .ending) (z .places)) (sym g) (l, refl, q)
       finished l (some w) q (ps, g, c, a) =
           rw (ap (λ (z : Walked). z .ending) g) (l, refl, q ∙ ap some c, a)

@@ -7,9 +7,8 @@ use lib.ListN.{length, take, drop, getD}
 use Rattle.meaning.specs.Groups.{rangeLoad, count, witness}
 use Rattle.walk.specs.declared.Ending.{Ending}
 use Rattle.walk.specs.declared.Ending.the-variants.{Meets, Misses, Unfinished}
-use Rattle.walk.specs.Ranges.{Range, range}
 use Rattle.rows.specs.Order.{Node}
-use Rattle.walk.specs.Rows.{rowStart}
+use Rattle.rows.specs.Ranges.{Range, range, rowStart}
 
 module _ {X : Type 0} where
   abbrev pub sizes : List (List X) → List ℕ

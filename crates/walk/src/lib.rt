@@ -1,30 +1,22 @@
 // The walk through groups, on rows of numbers: no tasks and no paths are known here.
 //
-// "The walk sees a group before its children, the first child's side before the second's. A group that doesn't overload has
-// nothing below it examined. An overloading group of single paths is the witness and ends the walk."
+// "The walk sees a group before its children, the first child's side before the second's. A group that doesn't overload has nothing below it examined. An
+// overloading group of single paths is the witness and ends the walk."
 // "The walk is written as a step that examines one group, and a run that takes at most as many steps as the budget."
 //
-// Of each higher task there is a stretch of rows in the work area, which begins at `root` there, and the `count` of its paths.
-// A group is lent as arrays: where the row of each task's range begins (`base`), its `first` path and its `len`.
-mod group;
-mod moves;
-mod overload;
-
-use crate::group::top_group;
-use crate::moves::first_child;
-use crate::moves::next_group;
-use crate::overload::overloads;
+// Of each higher task there is a stretch of rows in the work area, which begins at `root` there, and the `count` of its paths. The present group stands
+// in arrays: where the row of each task's range begins (`base`), its `first` path and its `len`.
+use bounds::MOST_HIGHER;
+use bounds::PerTask;
+use groups::first_child;
+use groups::next_group;
+use groups::top_group;
+use overload::overloads;
 ghost use mathlib.Core.Path.{_≡_};
 ghost use lib.ListN.{take};
-ghost use Rattle.walk.specs.Lent.{groupIn, Ready, Walkable, Stepped};
-ghost use Rattle.walk.specs.Rows.{groupOverloads};
-ghost use Rattle.walk.specs.Steps.{examine, runRows};
-
-// A vertex has at most so many higher tasks.
-pub const MOST_HIGHER: usize = 7;
-
-// A number for each higher task.
-pub type PerTask = [usize; MOST_HIGHER];
+ghost use Rattle.groups.specs.Lent.{arrays, Standing};
+ghost use Rattle.walk.specs.Lent.{Walkable, StepsOver};
+ghost use Rattle.walk.specs.Steps.{runRows};
 
 // What examining a group says: there is a next one, it was the last, or it is the witness.
 pub(crate) enum Examined {
@@ -58,8 +50,8 @@ fn step(
     d: usize,
     e: u32,
 ) -> Examined
-    requires { ⌜ Walkable h d e (now root) (now count) (now work) × Ready h d (now root) (now count) (now base) (now first) (now len) ⌝ }
-    ensures { λ r. ⌜ Stepped (examine (groupOverloads (now (work .entry)) d e (take h (now (root .entry)))) (take h (now (count .entry))) (groupIn h (now (first .entry)) (now (len .entry)))) h d (now (root .entry)) (now (base .entry)) (now (first .entry)) (now (len .entry)) r (now (base .exit)) (now (first .exit)) (now (len .exit)) ⌝ }
+    requires { ⌜ Walkable h d e (now root) (now count) (now work) × Standing h d (now root) (now count) (arrays (now base) (now first) (now len)) ⌝ }
+    ensures { λ r. ⌜ StepsOver h d e (now (work .entry)) (now (root .entry)) (now (count .entry)) (arrays (now (base .entry)) (now (first .entry)) (now (len .entry))) r (arrays (now (base .exit)) (now (first .exit)) (now (len .exit))) ⌝ }
 {
     if overloads(work, base, h, d, e) {
         if first_child(root, count, base, first, len, h, d) {

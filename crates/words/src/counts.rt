@@ -1,8 +1,7 @@
 // How many vertices meet, miss, are unfinished and are refused, and what follows from that for the whole table.
 use crate::numbers::sum;
-use crate::print::end_line;
 use crate::print::say;
-use crate::print::say_number;
+use crate::print::say_with;
 use kinds::Verdict;
 
 pub(crate) struct Counts {
@@ -46,14 +45,12 @@ fn say_sentence(counts: Counts) {
 }
 
 pub(crate) fn say_counts(counts: Counts) {
-    say(b"meets ");
-    say_number(counts.meeting);
-    say(b", misses ");
-    say_number(counts.missing);
-    say(b", unfinished ");
-    say_number(counts.unfinishing);
-    say(b", refused ");
-    say_number(counts.refusing);
-    end_line();
+    let numbers = [
+        counts.meeting,
+        counts.missing,
+        counts.unfinishing,
+        counts.refusing,
+    ];
+    say_with(b"meets #0, misses #1, unfinished #2, refused #3\n", numbers);
     say_sentence(counts);
 }

@@ -1,9 +1,8 @@
 // The desk program's verdicts, in words for people: a line for each vertex, after a miss the releases that show it, then the counts and whether the
 // table may go out. "It reads standard input into 8,192 bytes, lends 8,192 work cells and 1,407 witness cells, and uses budget 100,000."
 //
-// With the argument `many`, standard input is a sequence of texts, each preceded by its length in 4 bytes, high byte first; the words of each text are
-// followed by an empty line.
-mod bounds;
+// With the argument `many`, standard input is a sequence of cases, as the crate `sequences` has it, whose mode is `w`; the words of each text are followed by
+// an empty line.
 mod counts;
 mod line;
 mod numbers;
@@ -14,19 +13,21 @@ mod tables;
 mod verdicts;
 
 use crate::print::end_line;
-use crate::refusals::say_refused;
+use crate::print::say;
 use crate::refusals::say_too_long;
+use crate::refusals::say_unreadable;
 use crate::tables::say_table;
+use bounds::DESK_WORK;
+use bounds::LONGEST_INPUT;
+use bounds::MOST_WITNESS;
 use reader::Status;
 use reader::read;
-use sequences::text_end;
-
-// A text of more bytes fills the input's 8,192, and more may follow.
-const MOST_BYTES: usize = 8191;
+use sequences::HEADER_BYTES;
+use sequences::case_end;
 
 // "A refused text or input gives only" its refusal, and "12 is checked before all".
 fn say_text(text: &[u8], work: &mut [u32], witness: &mut [u16]) {
-    if MOST_BYTES < text.len() {
+    if LONGEST_INPUT < text.len() {
         say_too_long();
         return;
     }
@@ -37,22 +38,33 @@ fn say_text(text: &[u8], work: &mut [u32], witness: &mut [u16]) {
         say_table(text, table, work, witness);
         return;
     };
-    say_refused(text, at);
+    say_unreadable(text, at);
 }
 
-fn say_texts(bytes: &[u8], work: &mut [u32], witness: &mut [u16]) {
-    let mut at = 0;
-    while 4 <= bytes.len() - at {
-        let end = text_end(bytes, at);
-        let from = at + 4;
-        say_text(&bytes[from..end], work, witness);
+// Any other mode is a line that says so.
+fn say_case(mode: u8, text: &[u8], work: &mut [u32], witness: &mut [u16]) {
+    if mode != b'w' {
+        say(b"no such mode: ");
+        io::print_hex(1, mode as u64, 2);
         end_line();
+        return;
+    }
+    say_text(text, work, witness);
+    end_line();
+}
+
+fn say_cases(bytes: &[u8], work: &mut [u32], witness: &mut [u16]) {
+    let mut at = 0;
+    while HEADER_BYTES <= bytes.len() - at {
+        let from = at + HEADER_BYTES;
+        let end = case_end(bytes, at);
+        say_case(bytes[at], &bytes[from..end], work, witness);
         at = end;
     }
 }
 
 fn say_input(work: &mut [u32], witness: &mut [u16]) {
-    let mut bytes = [0u8; 8192];
+    let mut bytes = [0u8; LONGEST_INPUT + 1];
     let n = io::read_full(0, &mut bytes);
     say_text(&bytes[..n], work, witness);
 }
@@ -60,7 +72,7 @@ fn say_input(work: &mut [u32], witness: &mut [u16]) {
 fn say_sequence(work: &mut [u32], witness: &mut [u16]) {
     let mut bytes = sequences::room();
     let n = io::read_full(0, &mut bytes);
-    say_texts(&bytes[..n], work, witness);
+    say_cases(&bytes[..n], work, witness);
 }
 
 // Whether the program's first argument is `many`; one that is longer doesn't fit, and has length 0.
@@ -83,8 +95,8 @@ fn is_many() -> bool {
 }
 
 fn main() {
-    let mut work = [0u32; 8192];
-    let mut witness = [0u16; 1407];
+    let mut work = [0u32; DESK_WORK];
+    let mut witness = [0u16; MOST_WITNESS];
     if is_many() {
         say_sequence(&mut work, &mut witness);
         return;

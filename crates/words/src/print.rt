@@ -1,6 +1,8 @@
 // Words and numbers, to standard output.
 use io::print_decimal;
 use io::write_all;
+ghost use Prim.Native.Nat.{_≤_};
+ghost use lib.ListN.{length};
 
 pub(crate) fn say(words: &[u8]) {
     write_all(1, words);
@@ -10,20 +12,53 @@ pub(crate) fn end_line() {
     say(b"\n");
 }
 
-pub(crate) fn say_number(n: u32) {
-    print_decimal(1, n as u64);
+// Where a run without marks ends.
+fn run_end(words: &[u8], from: usize) -> usize
+    requires { ⌜ from ≤ length (now words) ⌝ }
+    ensures { λ r. ⌜ (from ≤ r) × (r ≤ length (now (words .entry))) ⌝ }
+{
+    let mut i = from;
+    while i < words.len() {
+        if words[i] == b'#' {
+            return i;
+        }
+        if words[i] == b'%' {
+            return i;
+        }
+        i += 1;
+    }
+    i
 }
 
-pub(crate) fn say_size(n: usize) {
-    print_decimal(1, n as u64);
+fn number_of(numbers: [u32; 4], digit: u8) -> u32 {
+    match digit {
+        b'0' => numbers[0],
+        b'1' => numbers[1],
+        b'2' => numbers[2],
+        _ => numbers[3],
+    }
 }
 
-// A number of things: "1 tick", "2 ticks".
-pub(crate) fn say_count(n: u32, thing: &[u8]) {
-    say_number(n);
-    say(b" ");
-    say(thing);
+fn say_mark(mark: u8, n: u32) {
+    if mark == b'#' {
+        print_decimal(1, n as u64);
+        return;
+    }
     if n != 1 {
         say(b"s");
+    }
+}
+
+// A sentence with its numbers, counted from 0: `#1` stands for the second, and `%1` for an s unless that is 1, as in "#1 tick%1".
+pub(crate) fn say_with(words: &[u8], numbers: [u32; 4]) {
+    let mut at: usize = 0;
+    while at < words.len() {
+        let end = run_end(words, at);
+        say(&words[at..end]);
+        if words.len() - end < 2 {
+            return;
+        }
+        say_mark(words[end], number_of(numbers, words[end + 1]));
+        at = end + 2;
     }
 }

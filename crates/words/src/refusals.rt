@@ -1,53 +1,103 @@
-// "A refused text or input": the row of the refusal sheet in words, and the line that it names.
+// "The refusal sheet": each of its rows in words. A refusal that has none doesn't pass the compiler.
 use crate::line::say_line;
 use crate::print::end_line;
 use crate::print::say;
-use crate::print::say_number;
+use crate::print::say_with;
+use bounds::DESK_WORK;
+use bounds::LONGEST_INPUT;
+use bounds::MOST_PATHS;
+use bounds::MOST_WITNESS;
 use kinds::Refusal;
 use kinds::RefusedAt;
 use kinds::refusal_number;
+
+// A row that refuses a line.
+fn say_at_line(line: u32, row: &[u8]) {
+    say_with(b" at line #0: ", [line, 0, 0, 0]);
+    say(row);
+}
+
+// A row with what it returns and the number that it is held to.
+fn say_place(row: &[u8], place: u32, held_to: usize) {
+    say(b": ");
+    say_with(row, [place, least_word(held_to), 0, 0]);
+}
+
+// As many as a word can say.
+fn least_word(n: usize) -> u32 {
+    if 4294967295 < n {
+        return 4294967295;
+    }
+    n as u32
+}
+
+// The rows that refuse a line, 1 to 7, and then those that refuse a vertex or an input.
+fn say_row(at: RefusedAt) {
+    let refusal = at.refusal;
+    match refusal {
+        Refusal::BadLine => say_at_line(
+            at.place,
+            b"a line must be pairs of the digits 0-9a-f, at least one pair, and end in a line feed",
+        ),
+        Refusal::WrongFrame => say_at_line(
+            at.place,
+            b"this kind of frame isn't allowed here, or its length is wrong for its kind",
+        ),
+        Refusal::OutOfBounds => say_at_line(
+            at.place,
+            b"a number is outside its bounds, or an edge names a vertex that the task hasn't",
+        ),
+        Refusal::DeadlineOverSeparation => say_at_line(
+            at.place,
+            b"the deadline of the edge's starting vertex exceeds the separation",
+        ),
+        Refusal::EdgeNotAfter => say_at_line(
+            at.place,
+            b"the edge doesn't come after the one before it in its task",
+        ),
+        Refusal::NoEnd => say_at_line(at.place, b"the text ends and no end frame was read"),
+        Refusal::BytesAfterEnd => say_at_line(at.place, b"there are bytes after the end frame"),
+        Refusal::NoSuchVertex => say_place(b"there is no such task or vertex", 0, 0),
+        Refusal::TooManyPaths => say_place(
+            b"task #0 has more than #1 complete paths",
+            at.place,
+            MOST_PATHS,
+        ),
+        Refusal::WorkTooShort => say_place(
+            b"#0 work cells are needed and there are #1",
+            at.place,
+            DESK_WORK,
+        ),
+        Refusal::WitnessTooShort => say_place(
+            b"#0 witness cells are needed and there are #1",
+            at.place,
+            MOST_WITNESS,
+        ),
+        Refusal::InputTooLong => {
+            say_place(b"the input is longer than #1 bytes", 0, LONGEST_INPUT);
+        }
+    }
+}
+
+pub(crate) fn say_refusal(at: RefusedAt) {
+    let refusal = at.refusal;
+    say_with(b"REFUSED (#0)", [refusal_number(refusal) as u32, 0, 0, 0]);
+    say_row(at);
+}
 
 fn say_not_judged() {
     say(b"This may NOT go out: the table can't be read, so nothing was judged.\n");
 }
 
 pub(crate) fn say_too_long() {
-    say(b"REFUSED (12): the input is longer than 8191 bytes\n");
+    let refusal = Refusal::InputTooLong;
+    say_refusal(RefusedAt { refusal, place: 0 });
+    end_line();
     say_not_judged();
 }
 
-// The rows that refuse a text, 1 to 7.
-fn say_row(refusal: Refusal) {
-    match refusal {
-        Refusal::BadLine => {
-            say(
-                b"a line must be pairs of the digits 0-9a-f, at least one pair, and end in a line feed",
-            );
-        }
-        Refusal::WrongFrame => {
-            say(b"this kind of frame isn't allowed here, or its length is wrong for its kind");
-        }
-        Refusal::OutOfBounds => {
-            say(b"a number is outside its bounds, or an edge names a vertex that the task hasn't");
-        }
-        Refusal::DeadlineOverSeparation => {
-            say(b"the deadline of the edge's starting vertex exceeds the separation");
-        }
-        Refusal::EdgeNotAfter => say(b"the edge doesn't come after the one before it in its task"),
-        Refusal::NoEnd => say(b"the text ends and no end frame was read"),
-        Refusal::BytesAfterEnd => say(b"there are bytes after the end frame"),
-        _ => (),
-    }
-}
-
-pub(crate) fn say_refused(text: &[u8], at: RefusedAt) {
-    let refusal = at.refusal;
-    say(b"REFUSED (");
-    say_number(refusal_number(refusal) as u32);
-    say(b") at line ");
-    say_number(at.place);
-    say(b": ");
-    say_row(refusal);
+pub(crate) fn say_unreadable(text: &[u8], at: RefusedAt) {
+    say_refusal(at);
     end_line();
     say_line(text, at.place);
     say_not_judged();

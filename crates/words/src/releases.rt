@@ -1,39 +1,39 @@
 // The releases that show a miss, out of the witness area: "per higher task in order, the path's length and vertices".
-use crate::bounds::MOST_EDGES;
-use crate::bounds::MOST_TASKS;
-use crate::bounds::MOST_VERTICES;
 use crate::numbers::sum;
 use crate::print::end_line;
 use crate::print::say;
-use crate::print::say_number;
-use crate::print::say_size;
+use crate::print::say_with;
+use bounds::MOST_EDGES;
+use bounds::MOST_TASKS;
+use bounds::MOST_VERTICES;
 use table::Edge;
 use table::Table;
 use table::Task;
 ghost use Prim.Native.Nat.{_+_, _≤_, _<_};
 ghost use lib.ListN.{length};
+ghost use Rattle.meaning.specs.Bounds.{mostTasks};
 
-fn wide(cell: u16) -> usize {
-    cell as usize
+fn wide(cell: u16) -> u32 {
+    cell as u32
 }
 
-fn execution(task: Task, v: usize) -> u32 {
-    if MOST_VERTICES <= v {
+fn execution(task: Task, v: u32) -> u32 {
+    if MOST_VERTICES <= v as usize {
         return 0;
     }
-    let job = task.vertices[v];
+    let job = task.vertices[v as usize];
     job.e.0 as u32
 }
 
-fn leads(edge: Edge, from: usize, to: usize) -> bool {
-    if edge.from.0 as usize != from {
+fn leads(edge: Edge, from: u32, to: u32) -> bool {
+    if edge.from.0 as u32 != from {
         return false;
     }
-    edge.to.0 as usize == to
+    edge.to.0 as u32 == to
 }
 
 // The separation of the edge from one vertex to another: "each next one by an edge".
-fn separation(task: Task, from: usize, to: usize) -> u32 {
+fn separation(task: Task, from: u32, to: u32) -> u32 {
     let mut i: usize = 0;
     while i < MOST_EDGES {
         let edge = task.edges[i];
@@ -55,14 +55,11 @@ fn wait_before(task: Task, path: &[u16], i: usize) -> u32
     separation(task, wide(path[i - 1]), wide(path[i]))
 }
 
-fn say_release(i: usize, v: usize, tick: u32) {
+fn say_release(i: usize, v: u32, tick: u32) {
     if i != 0 {
         say(b", ");
     }
-    say(b"vertex ");
-    say_size(v);
-    say(b" at tick ");
-    say_number(tick);
+    say_with(b"vertex #0 at tick #1", [v, tick, 0, 0]);
 }
 
 // One path's releases: the first at tick 0. Gives its load at the deadline, which is the total e of its vertices, since its span is below the deadline.
@@ -86,17 +83,21 @@ fn path_end(cells: &[u16], at: usize) -> usize
     ensures { λ r. ⌜ (at + 1 ≤ r) × (r ≤ length (now (cells .entry))) ⌝ }
 {
     let from = at + 1;
-    let len = wide(cells[at]);
+    let len = wide(cells[at]) as usize;
     if cells.len() - from < len {
         return cells.len();
     }
     from + len
 }
 
-fn say_task(j: usize) {
-    say(b"    task ");
-    say_size(j);
-    say(b": ");
+// The line of task j's path; gives its load.
+fn say_task(j: usize, task: Task, path: &[u16]) -> u32
+    requires { ⌜ j < mostTasks ⌝ }
+{
+    say_with(b"    task #0: ", [j as u32, 0, 0, 0]);
+    let load = say_path(task, path);
+    end_line();
+    load
 }
 
 // The paths of a miss, a line each; gives their loads together.
@@ -111,9 +112,7 @@ pub(crate) fn say_releases(table: Table, cells: &[u16]) -> u32 {
         let task = table.tasks[j];
         let from = at + 1;
         let end = path_end(cells, at);
-        say_task(j);
-        loads = sum(loads, say_path(task, &cells[from..end]));
-        end_line();
+        loads = sum(loads, say_task(j, task, &cells[from..end]));
         at = end;
         j += 1;
     }

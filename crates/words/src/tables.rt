@@ -1,13 +1,13 @@
 // A readable table: a line for each vertex, "in rising order of task and then vertex", and the counts.
-use crate::bounds::MOST_TASKS;
-use crate::bounds::MOST_VERTICES;
 use crate::counts::Counts;
 use crate::counts::counted;
 use crate::counts::no_counts;
 use crate::counts::say_counts;
-use crate::print::say;
-use crate::print::say_number;
+use crate::print::say_with;
 use crate::verdicts::say_verdict;
+use bounds::DESK_BUDGET;
+use bounds::MOST_TASKS;
+use bounds::MOST_VERTICES;
 use judge::judge;
 use kinds::TaskNumber;
 use kinds::Verdict;
@@ -15,15 +15,13 @@ use kinds::VertexNumber;
 use table::Table;
 use table::Vertex;
 ghost use Prim.Native.Nat.{_<_};
-
-const BUDGET: u32 = 100000;
+ghost use Rattle.meaning.specs.Bounds.{mostTasks};
 
 fn say_name(task: TaskNumber, vertex: VertexNumber) {
-    say(b"task ");
-    say_number(task.0 as u32);
-    say(b", vertex ");
-    say_number(vertex.0 as u32);
-    say(b": ");
+    say_with(
+        b"task #0, vertex #1: ",
+        [task.0 as u32, vertex.0 as u32, 0, 0],
+    );
 }
 
 // One vertex; gives its verdict, to be counted.
@@ -36,9 +34,9 @@ fn say_vertex(
     work: &mut [u32],
     witness: &mut [u16],
 ) -> Verdict {
-    let verdict = judge(text, task, vertex, BUDGET, work, witness);
+    let verdict = judge(text, task, vertex, DESK_BUDGET, work, witness);
     say_name(task, vertex);
-    say_verdict(table, job, verdict, witness, work.len());
+    say_verdict(table, job, verdict, witness);
     verdict
 }
 
@@ -51,7 +49,7 @@ fn say_vertices(
     work: &mut [u32],
     witness: &mut [u16],
 ) -> Counts
-    requires { ⌜ k < 8 ⌝ }
+    requires { ⌜ k < mostTasks ⌝ }
 {
     let own = table.tasks[k];
     let task = TaskNumber(k as u8);

@@ -1,4 +1,4 @@
-//! Writes the cases that the judge is checked with: a sequence as `second judge` reads it.
+//! Writes the cases that the judge is checked with: a sequence as `second cases` reads it.
 //!
 //! The bench examples, every refusal, and random tables with budgets and areas around what they need. The sequence is the same from run to run.
 
@@ -8,11 +8,13 @@ mod made;
 
 use made::bench::{r1, r10, r10_texts, r3, r4, r5, r7, R11_TEXTS};
 use made::{edge_line, random_task, self_edge, task, text, vertex_line, Random, Size};
-use second::case::Case;
+use second::case::{Case, TABLE, VERTEX};
 use second::judge::{judge, Verdict};
 use second::refusal::{Refusal, Row};
+use second::sequence::write_cases;
 use second::table::{TaskNo, VertexNo};
-use std::io::{self, Write};
+use std::collections::HashSet;
+use std::io;
 
 /// The most cells of each area.
 const MOST_CELLS: (u32, u32) = (8_192, 1_500);
@@ -33,25 +35,43 @@ const SIZE: Size = Size {
     p: 8,
 };
 
-/// Writes each case.
+/// Writes each case, and one whose mode there is not.
 fn main() -> io::Result<()> {
-    let mut cases = Vec::new();
-    bench(&mut cases);
-    many_paths(&mut cases);
-    texts(&mut cases);
-    numbers(&mut cases);
-    large(&mut cases);
-    random(&mut cases);
-    let mut target = io::stdout().lock();
-    for case in cases {
-        target.write_all(&case.bytes())?;
-    }
-    target.flush()
+    let mut vertices = Vec::new();
+    bench(&mut vertices);
+    many_paths(&mut vertices);
+    texts(&mut vertices);
+    numbers(&mut vertices);
+    large(&mut vertices);
+    random(&mut vertices);
+    let unknown = Case {
+        mode: b'z',
+        ..vertices[0].clone()
+    };
+    let tables = whole_tables(&vertices);
+    write_cases(vertices.into_iter().chain(tables).chain([unknown]))
 }
 
-/// A case.
+/// The whole table of each vertex, with the same budget and as many work cells, once.
+fn whole_tables(vertices: &[Case]) -> Vec<Case> {
+    let mut seen = HashSet::new();
+    let mut tables = Vec::new();
+    for vertex in vertices {
+        if seen.insert((&vertex.text, vertex.budget, vertex.work)) {
+            tables.push(Case {
+                budget: vertex.budget,
+                work: vertex.work,
+                ..Case::plain(TABLE, vertex.text.clone())
+            });
+        }
+    }
+    tables
+}
+
+/// A vertex to judge.
 fn case(text: &str, numbers: (u8, u8), budget: u32, lent: (u32, u32)) -> Case {
     Case {
+        mode: VERTEX,
         task: numbers.0,
         vertex: numbers.1,
         budget,

@@ -1,4 +1,4 @@
-//! Writes the tables whose judging docs/COST.md counts: a sequence as `second tables` reads it.
+//! Writes the tables whose judging docs/COST.md counts: a sequence as `second cases` reads it.
 //!
 //! The first argument is a family: `small` tables like R1, `paper` tables like those of source document 001, section 8.1, or `heavy` ones,
 //! with many groups. With `few`, the bench examples and some tables of each family. A second argument gives another seed.
@@ -9,6 +9,7 @@ mod made;
 
 use made::{bench, random_task, self_edge, task, text, Random, Size};
 use second::bounds::{BUDGET, D, MOST_WORK_CELLS, WITNESS_CELLS};
+use second::case::UNMARKED;
 use second::judge::{judge, Verdict};
 use second::sequence::write_sequence;
 use second::table::{TaskNo, VertexNo};
@@ -44,7 +45,7 @@ fn main() -> io::Result<()> {
         ));
     };
     let texts: Vec<_> = texts.into_iter().map(String::into_bytes).collect();
-    write_sequence(&texts)
+    write_sequence(UNMARKED, texts)
 }
 
 /// The tables of a family, if there is one of this name.

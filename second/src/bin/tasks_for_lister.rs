@@ -1,4 +1,4 @@
-//! Writes the texts that the lister is checked with: a sequence as `second list` reads it.
+//! Writes the texts that the lister is checked with: a sequence as `second cases` reads it.
 //!
 //! The bench examples, then random tables whose tasks have from one path to far more than are allowed. The sequence is the same from run to run.
 
@@ -7,6 +7,7 @@
 mod made;
 
 use made::{bench, task, Random};
+use second::case::LIST;
 use second::sequence::write_sequence;
 use std::io;
 
@@ -49,7 +50,7 @@ fn main() -> io::Result<()> {
     let mut texts: Vec<_> = bench::texts().into_iter().map(String::into_bytes).collect();
     let sizes = SIZES.iter().cycle().take(TABLES);
     texts.extend(sizes.map(|size| table(&mut random, size)));
-    write_sequence(&texts)
+    write_sequence(LIST, texts)
 }
 
 /// A random table of one to three tasks; vertex 0 of the last has the horizon as its d.

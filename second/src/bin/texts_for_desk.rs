@@ -1,4 +1,4 @@
-//! Writes the texts that the desk is checked with: a sequence as `second many` reads it.
+//! Writes the texts that the desk is checked with: a sequence as `second cases` reads it.
 //!
 //! The bench examples, every refusal of a text, inputs around the longest, and random texts, whole and damaged. The sequence is the
 //! same from run to run. A first argument gives the random part another seed; with a second one, only so many random texts are written.
@@ -9,6 +9,7 @@ mod made;
 
 use made::{bench, damage, random_task, refusals, task, text, Random, Size};
 use second::bounds::INPUT_BYTES;
+use second::case::DESK;
 use second::sequence::write_sequence;
 use std::env;
 use std::io;
@@ -51,7 +52,7 @@ fn main() -> io::Result<()> {
         Ok([seed, count]) => random_texts(*seed, *count),
         _ => return Err(io::Error::other("usage: texts_for_desk [SEED [COUNT]]")),
     };
-    write_sequence(&texts)
+    write_sequence(DESK, texts)
 }
 
 /// Every text.

@@ -1,4 +1,4 @@
-//! Writes the texts that the reader is checked with: a sequence as `second check` reads it.
+//! Writes the texts that the reader is checked with: a sequence as `second cases` reads it.
 //!
 //! Every refusal of a text, each bound and one past it, and random texts, whole and damaged. The sequence is the same from run to run.
 
@@ -7,6 +7,7 @@
 mod made;
 
 use made::{damage, random_task, refusals, Random, Size};
+use second::case::CHECK;
 use second::sequence::write_sequence;
 use std::io;
 
@@ -21,12 +22,12 @@ const SIZE: Size = Size {
     p: 800,
 };
 
-/// Writes each text, preceded by its length in 4 bytes.
+/// Writes a case for each text.
 fn main() -> io::Result<()> {
     let mut texts = Vec::new();
     refusals::add(&mut texts);
     random(&mut texts);
-    write_sequence(&texts)
+    write_sequence(CHECK, texts)
 }
 
 /// Random tables, each whole and damaged in one way.

@@ -1,4 +1,4 @@
-//! Writes the texts that the words for people are checked with: a sequence as `second words` reads it.
+//! Writes the texts that the words for people are checked with: a sequence as `second cases` reads it.
 //!
 //! The files that the arguments name, the bench examples, faulty lines of every kind, each verdict, and random tables. The sequence is
 //! the same from run to run.
@@ -10,6 +10,7 @@ mod made;
 use made::refusals::{with, LINES};
 use made::{bench, random_task, self_edge, task, text, Random, Size};
 use second::bounds::INPUT_BYTES;
+use second::case::WORDS;
 use second::sequence::write_sequence;
 use std::{env, fs, io};
 
@@ -23,7 +24,7 @@ const SIZE: Size = Size {
     p: 6,
 };
 
-/// Writes each text, preceded by its length in 4 bytes.
+/// Writes a case for each text.
 fn main() -> io::Result<()> {
     let files: io::Result<Vec<_>> = env::args_os().skip(1).map(fs::read).collect();
     let mut texts = files?;
@@ -33,7 +34,7 @@ fn main() -> io::Result<()> {
     ends(&mut texts);
     verdicts(&mut texts);
     random(&mut texts);
-    write_sequence(&texts)
+    write_sequence(WORDS, texts)
 }
 
 /// Refusal 1 with lines that can't be shown as they are: empty, unseen bytes, the backslash, and lines around the longest shown.

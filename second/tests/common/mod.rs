@@ -6,7 +6,9 @@ pub mod definitions;
 pub mod random;
 pub mod sheet;
 
+use second::case::Case;
 use second::judge::{judge, Verdict};
+use second::sequence::next_case;
 use second::table::{TaskNo, VertexNo};
 use std::io::Write;
 use std::process::{Command, Output, Stdio};
@@ -139,17 +141,49 @@ pub fn with_length(bytes: &[u8]) -> Vec<u8> {
     [&length.to_be_bytes(), bytes].concat()
 }
 
-/// The texts of a sequence.
-pub fn texts_of(sequence: &[u8]) -> Vec<Vec<u8>> {
-    let mut texts = Vec::new();
-    let mut rest = sequence;
+/// The bytes of many outputs, each preceded by its length.
+pub fn outputs_of(written: &[u8]) -> Vec<Vec<u8>> {
+    let mut outputs = Vec::new();
+    let mut rest = written;
     while let Some((length, behind)) = rest.split_first_chunk() {
-        let (text, next) = behind.split_at(u32::from_be_bytes(*length) as usize);
-        texts.push(text.to_vec());
+        let (output, next) = behind.split_at(u32::from_be_bytes(*length) as usize);
+        outputs.push(output.to_vec());
         rest = next;
     }
     assert!(rest.is_empty());
-    texts
+    outputs
+}
+
+/// The same question about each text, as a sequence of cases.
+pub fn sequence_of(mode: u8, texts: &[&[u8]]) -> Vec<u8> {
+    let cases = texts.iter().map(|text| Case::plain(mode, text.to_vec()));
+    cases.flat_map(|case| case.bytes()).collect()
+}
+
+/// The cases of a sequence.
+pub fn cases_of(sequence: &[u8]) -> Vec<Case> {
+    let mut rest = sequence;
+    std::iter::from_fn(|| next_case(&mut rest).unwrap()).collect()
+}
+
+/// The texts of a sequence of cases that all ask the same.
+pub fn texts_of(mode: u8, sequence: &[u8]) -> Vec<Vec<u8>> {
+    let cases = cases_of(sequence);
+    assert!(cases.iter().all(|case| case.mode == mode));
+    cases.into_iter().map(|case| case.text).collect()
+}
+
+/// What the program answers to a sequence of cases.
+pub fn answered(sequence: &[u8]) -> Vec<u8> {
+    let found = run(&["cases"], sequence);
+    assert_eq!(found.status.code(), Some(0));
+    assert!(found.stderr.is_empty());
+    found.stdout
+}
+
+/// What the program answers to a sequence of cases, as lines.
+pub fn answered_lines(sequence: &[u8]) -> String {
+    String::from_utf8(answered(sequence)).unwrap()
 }
 
 /// Runs the program with these arguments and this standard input.

@@ -25,7 +25,12 @@ same-length : tie.Need-same-length
 same-length c = search needs
 
 returns : tie.Need-returns
-returns c = subst (λ (k : ℕ). Wrote (line (refusalFrame k ((c .before .before .before .before .before .before .before .args .refused .place)))) (c .before .before .before .before .before .before .before .args .out .now) (c .before .before .before .before .before .before .before .args .at) (c .before .before .put-line .last .0) (c .before .before .put-line .result)) (c .before .before .before .before .before .refusal-number .ensures) (c .before .before .put-line .ensures)
+returns c =
+    let put = c .before .before .put-line in
+    let number = c .before .before .before .before .before in
+    let s = number .before .before .args in
+    subst (λ (k : ℕ). Wrote (line (refusalFrame k (s .refused .place))) (s .out .now) (s .at) (put .last .0) (put .result))
+    (number .refusal-number .ensures) (put .ensures)
 
 pub refusal-line-spec : {M : Type 1} → statement M
 refusal-line-spec =

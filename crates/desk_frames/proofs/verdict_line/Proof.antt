@@ -2,6 +2,7 @@ use mathlib.Core.Path.{subst₂}
 use Prim.Native.Nat.{ℕ}
 use Rattle.meaning.specs.Desk.{line, verdictFrame}
 use Rattle.meaning.specs.Areas.{Wrote}
+use Rattle.desk_frames.specs.Lines.{placeOf}
 use borrow.Author.Needs.{needs}
 use Rattle.desk_frames.proofs.verdict_line.Statement.{statement}
 use Rattle.desk_frames.proofs.verdict_line.Tie as tie
@@ -34,7 +35,12 @@ same-length : tie.Need-same-length
 same-length c = search needs
 
 returns : tie.Need-returns
-returns c = subst₂ (λ (k n : ℕ). Wrote (line (verdictFrame (record { task = (c .before .before .before .before .before .before .before .before .args .task .0); vertex = (c .before .before .before .before .before .before .before .before .args .vertex .0) }) k n)) (c .before .before .before .before .before .before .before .before .args .out .now) (c .before .before .before .before .before .before .before .before .args .at) (c .before .before .put-line .last .0) (c .before .before .put-line .result)) (c .before .before .before .before .before .before .verdict-number .ensures) (c .before .before .before .before .before .verdict-value .ensures) (c .before .before .put-line .ensures)
+returns c =
+    let put = c .before .before .put-line in
+    let value = c .before .before .before .before .before in
+    let s = value .before .before .before .args in
+    subst₂ (λ (k n : ℕ). Wrote (line (verdictFrame (placeOf (s .task) (s .vertex)) k n)) (s .out .now) (s .at) (put .last .0) (put .result))
+    (value .before .verdict-number .ensures) (value .verdict-value .ensures) (put .ensures)
 
 pub verdict-line-spec : {M : Type 1} → statement M
 verdict-line-spec =

@@ -1,13 +1,25 @@
-use Rattle.lines.proofs.Answers.{held, failed, VertexSeen, vertex-kind, vertex-outside, vertex-taken}
-use Rattle.lines.proofs.Vertices.{VertexBounds, vertex-bounds}
-use Rattle.lines.proofs.Expected.{starts-says}
+use Rattle.frames.proofs.Answers.{held, failed, VertexSeen, vertex-kind, vertex-outside, vertex-taken}
+use Rattle.rules.proofs.Within.{VertexBounds, vertex-bounds}
+use Rattle.frames.proofs.Expected.{starts-says}
+use Prim.Native.Nat.{_<_}
+use lib.ListN.{length}
+use Rattle.frames.specs.Frames.{partDigits}
 use native.Mathlib.Omega.{arith}
 use borrow.Author.Needs.{needs}
 use Rattle.frames.proofs.vertex_line.Statement.{statement}
 use Rattle.frames.proofs.vertex_line.Tie as tie
 
-seen : (c : tie.After-vertex-in) → VertexSeen (c .before .before .before .before .before .before .args .text .now) (c .before .before .word-at .result) (c .before .word-at2 .result)
-seen c = record { starts = held (c .before .before .before .before .starts .ensures) (c .before .before .before .if1 .left); e-there = (c .before .before .word-at .ensures); d-there = (c .before .word-at2 .ensures) }
+long : (c : tie.Else1) → partDigits < length (c .before .before .before .args .text .now)
+long c = starts-says _ _ _ (held (c .before .starts .ensures) (c .if1 .left)) .long
+
+seen : (c : tie.After-vertex-in) →
+    let d = c .before in
+    let e = d .before in
+    VertexSeen (e .before .before .before .before .args .text .now) (e .word-at .result) (d .word-at2 .result)
+seen c =
+    let d = c .before in
+    let e = d .before in
+    record { starts = held (e .before .before .starts .ensures) (e .before .if1 .left); e-there = e .word-at .ensures; d-there = d .word-at2 .ensures }
 
 inside : (c : tie.Else2) → VertexBounds (c .before .before .before .word-at .result) (c .before .before .word-at2 .result)
 inside c = vertex-bounds _ _ (held (c .before .vertex-in .ensures) (c .if2 .left))
@@ -19,13 +31,13 @@ fault-requires : tie.Need-fault-requires
 fault-requires c κs = search needs
 
 returns : tie.Need-returns
-returns c = vertex-kind (c .before .before .before .before .args .text .now) (failed (c .before .before .starts .ensures) (c .before .if1 .taken)) (c .fault .ensures)
+returns c = vertex-kind _ (failed (c .before .before .starts .ensures) (c .before .if1 .taken)) (c .fault .ensures)
 
 word-at-requires : tie.Need-word-at-requires
-word-at-requires c κs = (omega (arith, starts-says _ _ _ (held (c .before .starts .ensures) (c .if1 .left)) .long), (c .before .before .before .pre))
+word-at-requires c κs = (omega (arith, long c), c .before .before .before .pre)
 
 word-at-requires-2 : tie.Need-word-at-requires-2
-word-at-requires-2 c κs = (omega (arith, starts-says _ _ _ (held (c .before .before .starts .ensures) (c .before .if1 .left)) .long), (c .before .before .before .before .pre))
+word-at-requires-2 c κs = (omega (arith, long (c .before)), c .before .before .before .before .pre)
 
 vertex-in-requires : tie.Need-vertex-in-requires
 vertex-in-requires c κs = search needs

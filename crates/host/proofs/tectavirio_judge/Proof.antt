@@ -22,7 +22,11 @@ same-length-2 : tie.Need-same-length-2
 same-length-2 c = search needs
 
 returns : tie.Need-returns
-returns c = vertex-told (c .before .before .before .before .before .before .before .before .before .before .before .before .before .args .text .now) (c .before .before .before .before .before .before .before .before .before .before .before .before .before .args .task) (c .before .before .before .before .before .before .before .before .before .before .before .before .before .args .vertex) (c .before .before .before .before .before .before .before .before .before .before .before .before .before .args .budget) (c .before .before .before .before .before .before .before .before .before .before .before .before .before .args .work .now) (c .before .before .before .before .before .before .before .before .before .before .before .before .before .args .witness .now) (c .before .before .before .before .before .before .before .judge .result) _ _ (c .before .before .before .before .before .before .before .judge .ensures) (c .verdict-number .result) (c .before .before .verdict-value .result) (c .before .verdict-place .result) (c .verdict-number .ensures) (c .before .before .verdict-value .ensures) (c .before .verdict-place .ensures)
+returns c =
+    let was = c .before .before .before .before .before .before .before in
+    let s = was .before .before .before .before .before .before .args in
+    vertex-told (s .text .now) (s .task) (s .vertex) (s .budget) (was .judge .result) (was .judge .ensures)
+    (c .verdict-number .ensures) (c .before .before .verdict-value .ensures) (c .before .verdict-place .ensures)
 
 pub tectavirio-judge-spec : {M : Type 1} → statement M
 tectavirio-judge-spec =

@@ -39,13 +39,16 @@ same-length : tie.Need-same-length
 same-length c = search needs
 
 returns : tie.Need-returns
-returns c = table-told (c .before .before .before .before .before .before .before .before .before .before .args .text .now) (c .before .before .before .before .before .before .before .before .before .before .args .budget) (c .before .before .before .before .before .before .before .before .before .before .args .work .now) (c .before .before .before .before .before .before .judge-table .result) _ _ (c .before .before .before .before .before .before .judge-table .ensures) (c .before .before .verdict .given .1) (c .counts-number .result) (c .counts-number .ensures)
+returns c = table-told (c .before .before .before .before .before .before .judge-table .ensures) (c .before .before .verdict .given .1) (c .counts-number .ensures)
 
 same-length-2 : tie.Need-same-length-2
 same-length-2 c = search needs
 
 returns-2 : tie.Need-returns-2
-returns-2 c = table-told (c .before .before .before .before .before .before .before .before .before .before .before .args .text .now) (c .before .before .before .before .before .before .before .before .before .before .before .args .budget) (c .before .before .before .before .before .before .before .before .before .before .before .args .work .now) (c .before .before .before .before .before .before .before .judge-table .result) _ _ (c .before .before .before .before .before .before .before .judge-table .ensures) (c .before .before .before .verdict2 .given .1) _ (ap (λ (n : ℕ). n * 4294967296 + (c .before .before .before .verdict2 .given .0 .0 .place)) (c .before .refusal-number .ensures))
+returns-2 c =
+    let told = c .before .before .before .verdict2 .given in
+    let number = c .before .refusal-number in
+    table-told (c .before .before .before .before .before .before .before .judge-table .ensures) (told .1) (ap (λ (n : ℕ). n * 4294967296 + told .0 .0 .place) (number .ensures))
 
 pub tectavirio-judge-table-spec : {M : Type 1} → statement M
 tectavirio-judge-table-spec =

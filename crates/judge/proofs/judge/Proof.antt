@@ -1,5 +1,11 @@
+use Prim.Native.Nat.{_<_}
+use native.Mathlib.Omega.{arith}
+use mathlib.Core.Path.{sym, _∙_}
+use borrow.Author.Tests.{leb-true, leb-false}
 use Rattle.reader.proofs.Result.{table-read, line-refused}
+use Rattle.table.proofs.Records.{held-few}
 use Rattle.judge.proofs.Answers.{read-held, text-refuses, table-answers}
+use Rattle.judge.proofs.OneVertex.{answer-8, answer-8-vertex, is-there}
 use borrow.Author.Needs.{needs}
 use Rattle.judge.proofs.judge.Statement.{statement}
 use Rattle.judge.proofs.judge.Tie as tie
@@ -13,8 +19,77 @@ enum-known-status c = search needs
 enum-told : tie.Need-enum-told
 enum-told c = search needs
 
+no-such-requires : tie.Need-no-such-requires
+no-such-requires c κs = search needs
+
+no-such-vertex-requires : tie.Need-no-such-vertex-requires
+no-such-vertex-requires c κs = search needs
+
+returns : tie.Need-returns
+returns c =
+    let asked = c .before in
+    let sought = asked .before in
+    let told = sought .before .before in
+    let was = told .before .before in
+    let entry = was .before .before .before .before in
+    let table = table-read (entry .args .text .now) (was .read .result) (was .read .ensures) (told .enum-told .given .1) in
+    let h = leb-true _ _ (sym (sought .no-such .ensures) ∙ asked .if1 .taken) in
+    table-answers (entry .args .text .now) (entry .args .task .0) (entry .args .vertex .0) (entry .args .budget) (entry .args .work .now)
+    (entry .args .witness .now) (was .read .result .table) _ _ _ table
+    (answer-8 (was .read .result .table) (read-held table) (entry .args .task .0) (entry .args .vertex .0) (entry .args .budget) (entry .args .work .now) (entry .args .witness .now) h (c .no-such-vertex .ensures))
+
+cast-h : tie.Need-cast-h
+cast-h c = search needs
+
+mul-own : tie.Need-mul-own
+mul-own c = search needs
+
+element-copy-out-own : tie.Need-element-copy-out-own
+element-copy-out-own c =
+    let asked = c .before in
+    let sought = asked .before in
+    let told = sought .before .before in
+    let was = told .before .before in
+    let entry = was .before .before .before .before in
+    let table = table-read (entry .args .text .now) (was .read .result) (was .read .ensures) (told .enum-told .given .1) in
+    let l : entry .args .task .0 < was .read .result .table .n = leb-false (was .read .result .table .n) (entry .args .task .0) (sym (sought .no-such .ensures) ∙ asked .if1 .left) in
+    omega (arith, held-few (was .read .result .table) (read-held table))
+
+no-such-requires-2 : tie.Need-no-such-requires-2
+no-such-requires-2 c κs = search needs
+
+no-such-vertex-requires-2 : tie.Need-no-such-vertex-requires-2
+no-such-vertex-requires-2 c κs = search needs
+
+returns-2 : tie.Need-returns-2
+returns-2 c =
+    let asked2 = c .before in
+    let sought2 = asked2 .before in
+    let asked = sought2 .before .before .before in
+    let sought = asked .before in
+    let told = sought .before .before in
+    let was = told .before .before in
+    let entry = was .before .before .before .before in
+    let table = table-read (entry .args .text .now) (was .read .result) (was .read .ensures) (told .enum-told .given .1) in
+    let l : entry .args .task .0 < was .read .result .table .n = leb-false (was .read .result .table .n) (entry .args .task .0) (sym (sought .no-such .ensures) ∙ asked .if1 .left) in
+    let h = leb-true _ _ (sym (sought2 .no-such2 .ensures) ∙ asked2 .if2 .taken) in
+    table-answers (entry .args .text .now) (entry .args .task .0) (entry .args .vertex .0) (entry .args .budget) (entry .args .work .now)
+    (entry .args .witness .now) (was .read .result .table) _ _ _ table
+    (answer-8-vertex (was .read .result .table) (read-held table) (entry .args .task .0) (entry .args .vertex .0) (entry .args .budget) (entry .args .work .now) (entry .args .witness .now) l h (c .no-such-vertex2 .ensures))
+
 judge-vertex-requires : tie.Need-judge-vertex-requires
-judge-vertex-requires c κs = read-held (table-read (c .before .before .before .before .before .before .before .before .before .args .text .now) (c .before .before .before .before .before .read .result) (c .before .before .before .before .before .read .ensures) (c .before .before .before .enum-told .given .1))
+judge-vertex-requires c κs =
+    let asked2 = c .before .before in
+    let sought2 = asked2 .before in
+    let asked = sought2 .before .before .before in
+    let sought = asked .before in
+    let told = sought .before .before in
+    let was = told .before .before in
+    let entry = was .before .before .before .before in
+    let table = table-read (entry .args .text .now) (was .read .result) (was .read .ensures) (told .enum-told .given .1) in
+    let l : entry .args .task .0 < was .read .result .table .n = leb-false (was .read .result .table .n) (entry .args .task .0) (sym (sought .no-such .ensures) ∙ asked .if1 .left) in
+    let m = leb-false _ _ (sym (sought2 .no-such2 .ensures) ∙ asked2 .if2 .left) in
+    (read-held table, is-there (was .read .result .table) (read-held table) (entry .args .task .0) (entry .args .vertex .0) (entry .args .budget) (entry .args .work .now) (entry .args .witness .now) l m)
 
 same-length : tie.Need-same-length
 same-length c = search needs
@@ -22,11 +97,24 @@ same-length c = search needs
 same-length-2 : tie.Need-same-length-2
 same-length-2 c = search needs
 
-returns : tie.Need-returns
-returns c = table-answers (c .before .before .before .before .before .before .before .before .before .before .before .before .before .before .args .text .now) ((c .before .before .before .before .before .before .before .before .before .before .before .before .before .before .args .task) .0) ((c .before .before .before .before .before .before .before .before .before .before .before .before .before .before .args .vertex) .0) (c .before .before .before .before .before .before .before .before .before .before .before .before .before .before .args .budget) (c .before .before .before .before .before .before .before .before .before .before .before .before .before .before .args .work .now) (c .before .before .before .before .before .before .before .before .before .before .before .before .before .before .args .witness .now) (c .before .before .before .before .before .before .before .before .before .before .read .result .table) (c .before .before .before .before .judge-vertex .result) _ _ (table-read (c .before .before .before .before .before .before .before .before .before .before .before .before .before .before .args .text .now) (c .before .before .before .before .before .before .before .before .before .before .read .result) (c .before .before .before .before .before .before .before .before .before .before .read .ensures) (c .before .before .before .before .before .before .before .before .enum-told .given .1)) (c .before .before .before .before .judge-vertex .ensures)
+returns-3 : tie.Need-returns-3
+returns-3 c =
+    let said = c .before .before .before .before in
+    let told = said .before .before .before .before .before .before .before .before .before .before in
+    let was = told .before .before in
+    let entry = was .before .before .before .before in
+    let table = table-read (entry .args .text .now) (was .read .result) (was .read .ensures) (told .enum-told .given .1) in
+    table-answers (entry .args .text .now) (entry .args .task .0) (entry .args .vertex .0) (entry .args .budget) (entry .args .work .now)
+    (entry .args .witness .now) (was .read .result .table) (said .judge-vertex .result) _ _ table (said .judge-vertex .ensures)
 
-returns-2 : tie.Need-returns-2
-returns-2 c = text-refuses (c .before .before .before .before .before .before .before .args .text .now) ((c .before .before .before .before .before .before .before .args .task) .0) ((c .before .before .before .before .before .before .before .args .vertex) .0) (c .before .before .before .before .before .before .before .args .budget) (c .before .before .before .before .before .before .before .args .work .now) (c .before .before .before .before .before .before .before .args .witness .now) ((c .before .status .given .0 .0)) (line-refused (c .before .before .before .before .before .before .before .args .text .now) (c .before .before .before .read .result) (c .before .before .before .read .ensures) (c .before .status .given .1))
+returns-4 : tie.Need-returns-4
+returns-4 c =
+    let told = c .before in
+    let was = told .before .before in
+    let entry = was .before .before .before .before in
+    let line = line-refused (entry .args .text .now) (was .read .result) (was .read .ensures) (told .status .given .1) in
+    text-refuses (entry .args .text .now) (entry .args .task .0) (entry .args .vertex .0) (entry .args .budget) (entry .args .work .now)
+    (entry .args .witness .now) (told .status .given .0 .0) line
 
 pub judge-spec : {M : Type 1} → statement M
 judge-spec =
@@ -35,8 +123,17 @@ judge-spec =
     read-requires
     enum-known-status
     enum-told
+    no-such-requires
+    no-such-vertex-requires
+    returns
+    cast-h
+    mul-own
+    element-copy-out-own
+    no-such-requires-2
+    no-such-vertex-requires-2
+    returns-2
     judge-vertex-requires
     same-length
     same-length-2
-    returns
-    returns-2)
+    returns-3
+    returns-4)

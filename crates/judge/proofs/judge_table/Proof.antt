@@ -14,16 +14,29 @@ enum-told : tie.Need-enum-told
 enum-told c = search needs
 
 count-verdicts-requires : tie.Need-count-verdicts-requires
-count-verdicts-requires c κs = read-held (table-read (c .before .before .before .before .before .before .before .args .text .now) (c .before .before .before .before .read .result) (c .before .before .before .before .read .ensures) (c .before .before .enum-told .given .1))
+count-verdicts-requires c κs =
+    let told = c .before .before in
+    let was = told .before .before in
+    read-held (table-read (was .before .before .before .args .text .now) (was .read .result) (was .read .ensures) (told .enum-told .given .1))
 
 same-length : tie.Need-same-length
 same-length c = search needs
 
 returns : tie.Need-returns
-returns c = table-counted (c .before .before .before .before .before .before .before .before .before .before .args .text .now) (c .before .before .before .before .before .before .before .before .before .before .args .budget) (c .before .before .before .before .before .before .before .before .before .before .args .work .now) (c .before .before .before .before .before .before .before .read .result .table) (c .before .before .count-verdicts .result) _ (table-read (c .before .before .before .before .before .before .before .before .before .before .args .text .now) (c .before .before .before .before .before .before .before .read .result) (c .before .before .before .before .before .before .before .read .ensures) (c .before .before .before .before .before .enum-told .given .1)) (c .before .before .count-verdicts .ensures)
+returns c =
+    let counted = c .before .before .count-verdicts in
+    let told = c .before .before .before .before .before in
+    let was = told .before .before in
+    let s = was .before .before .before .args in
+    let table = table-read (s .text .now) (was .read .result) (was .read .ensures) (told .enum-told .given .1) in
+    table-counted (s .text .now) (s .budget) (s .work .now) (was .read .result .table) (counted .result) _ table (counted .ensures)
 
 returns-2 : tie.Need-returns-2
-returns-2 c = text-uncounted (c .before .before .before .before .before .before .args .text .now) (c .before .before .before .before .before .before .args .budget) (c .before .before .before .before .before .before .args .work .now) (c .before .status .given .0 .0) (line-refused (c .before .before .before .before .before .before .args .text .now) (c .before .before .before .read .result) (c .before .before .before .read .ensures) (c .before .status .given .1))
+returns-2 c =
+    let told = c .before .status .given in
+    let was = c .before .before .before in
+    let s = was .before .before .before .args in
+    text-uncounted (s .text .now) (s .budget) (s .work .now) (told .0 .0) (line-refused (s .text .now) (was .read .result) (was .read .ensures) (told .1))
 
 pub judge-table-spec : {M : Type 1} → statement M
 judge-table-spec =

@@ -9,7 +9,10 @@ use Rattle.ranges.proofs.fill.Tie as tie
 
 path-rows-requires : tie.Need-path-rows-requires
 path-rows-requires c κs =
-    ((c .before .before .pre .0), (((c .before .before .pre .1) .0, (c .before .before .pre .1) .1), room-for ((c .before .before .args .d) .0) (c .before .before .args .paths) (length ((c .before .before .args .part) .now)) _ ((c .before .before .pre .1) .3) ((c .before .before .pre .1) .2) ((c .before .before .pre .1) .5) (sym ((c .before .before .pre .1) .4))))
+    let s = c .before .before in
+    let asked = s .pre .1 in
+    let room = room-for (s .args .d .0) (s .args .paths) (length (s .args .part .now)) _ (asked .3) (asked .2) (asked .5) (sym (asked .4)) in
+    (s .pre .0, ((asked .0, asked .1), room))
 
 cast-build : tie.Need-cast-build
 cast-build c = search needs
@@ -22,7 +25,11 @@ same-length c = search needs
 
 returns : tie.Need-returns
 returns c =
-    stretch-is (taskOf (c .before .before .before .before .before .before .before .before .before .before .args .t)) ((c .before .before .before .before .before .before .before .before .before .before .args .d) .0) (c .before .before .before .before .before .before .before .before .before .before .args .paths) ((c .before .before .before .before .before .before .before .before .before .before .args .part) .now) ((c .before .before .before .before .before .before .before .path-rows .last) .0) ((c .before .before .build .last) .0) ((c .before .before .before .before .before .before .before .before .before .before .pre .1) .4) (omega arith) (c .before .before .before .before .before .before .before .path-rows .ensures) (c .before .before .build .ensures)
+    let at-build = c .before .before in
+    let at-rows = at-build .before .before .before .before .before in
+    let s = at-rows .before .before .before in
+    stretch-is (taskOf (s .args .t)) (s .args .d .0) (s .args .paths) (s .args .part .now) (at-rows .path-rows .last .0) (at-build .build .last .0) (s .pre .1 .4) (omega arith)
+    (at-rows .path-rows .ensures) (at-build .build .ensures)
 
 pub fill-spec : {M : Type 1} → statement M
 fill-spec = tie.close (tie.spec path-rows-requires cast-build build-requires same-length returns)

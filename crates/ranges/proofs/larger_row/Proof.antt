@@ -7,9 +7,6 @@ use lib.Seq.{sets, take-all}
 use Rattle.ranges.proofs.LargerCells.{larger-more, pair-length, pairLarger}
 use Rattle.ranges.proofs.larger_row.Statement.{statement}
 use Rattle.ranges.proofs.larger_row.Tie as tie
-use Rattle.ranges.proofs.larger_row.Reads as reads
-use Rattle.ranges.proofs.larger_row.Lts as lts
-use Rattle.ranges.proofs.larger.Reads as larger-reads
 
 abbrev Inv-loop : tie.InvT-loop
 Inv-loop part₀ o a b d t₀ part t = (t ≤ d) × (part ≡ sets part₀ o (take t (pairLarger part₀ a b d))) × (length part ≡ length part₀)
@@ -60,7 +57,8 @@ loop-again : tie.Need-loop-again Inv-loop μ-loop
 loop-again c =
     let s = c .before .before .before .before .before .before in
     let l = c .before .before .before .before .loop in
-    (omega arith, larger-more (s .args .part .now) (s .args .o) (s .args .a) (s .args .b) (s .args .d) (s .pre .0) (s .pre .1) (s .pre .2) (l .part) (l .t) (c .larger .result) (c .before .before .before .loop-test .taken) (l .inv .1) (c .larger .ensures), length-set (l .part) _ _ ∙ l .inv .2)
+    let more = larger-more (s .args .part .now) (s .args .o) (s .args .a) (s .args .b) (s .args .d) (s .pre .0) (s .pre .1) (s .pre .2) in
+    (omega arith, more (l .part) (l .t) (c .larger .result) (c .before .before .before .loop-test .taken) (l .inv .1) (c .larger .ensures), length-set (l .part) _ _ ∙ l .inv .2)
 
 same-length : tie.Need-same-length Inv-loop μ-loop
 same-length c = c .before .loop .inv .2
@@ -69,7 +67,9 @@ returns : tie.Need-returns Inv-loop μ-loop
 returns c =
     let s = c .before .before .before in
     let l = c .before .loop in
-    l .inv .1 ∙ ap (sets (s .args .part .now) (s .args .o)) (take-all (l .t) (pairLarger (s .args .part .now) (s .args .a) (s .args .b) (s .args .d)) (omega (arith, pair-length (s .args .part .now) (s .args .o) (s .args .a) (s .args .b) (s .args .d) (s .pre .0) (s .pre .1) (s .pre .2))))
+    let row = pairLarger (s .args .part .now) (s .args .a) (s .args .b) (s .args .d) in
+    let size = pair-length (s .args .part .now) (s .args .o) (s .args .a) (s .args .b) (s .args .d) (s .pre .0) (s .pre .1) (s .pre .2) in
+    l .inv .1 ∙ ap (sets (s .args .part .now) (s .args .o)) (take-all (l .t) row (omega (arith, size)))
 
 pub larger-row-spec : {M : Type 1} → statement M
 larger-row-spec =

@@ -13,14 +13,32 @@ Inv-loop text worths table₀ at₀ line₀ table at line = Turn text table at l
 abbrev μ-loop : tie.MeasureT-loop
 μ-loop text worths table₀ at₀ line₀ table at line = mostTasks - table .n
 
-frame : (c : tie.After-task-or-end-line Inv-loop μ-loop) → FrameTurn (c .before .before .before .before .before .before .before .args .text .now) (c .before .before .before .loop .table) (c .before .before .before .loop .at) (c .before .before .before .loop .line) (c .task-or-end-line .result)
-frame c = record { turn = (c .before .before .before .loop .inv); gives = (c .task-or-end-line .ensures) }
+-- ---- the places on the way: a line is tested, it is a task's, the task's lines are read
 
-facts : (c : tie.After-known-told2 Inv-loop μ-loop) → TaskFacts (c .before .before .before .before .before .before .before .before .before .before .args .text .now) (c .before .before .before .before .before .before .loop .table) (c .before .before .before .before .before .before .loop .at) (c .before .before .before .before .before .before .loop .line) (c .before .next2 .given .0 .0) (c .before .next2 .given .0 .1 .0)
+frame : (c : tie.After-task-or-end-line Inv-loop μ-loop) →
+    let l = c .before .before .before in
+    FrameTurn (l .before .before .before .before .args .text .now) (l .loop .table) (l .loop .at) (l .loop .line) (c .task-or-end-line .result)
+frame c = record { turn = c .before .before .before .loop .inv; gives = c .task-or-end-line .ensures }
+
+facts : (c : tie.After-known-told2 Inv-loop μ-loop) →
+    let counts = c .before .next2 .given .0 in
+    let l = c .before .before .before .before .before .before in
+    TaskFacts (l .before .before .before .before .args .text .now) (l .loop .table) (l .loop .at) (l .loop .line) (counts .0) (counts .1 .0)
 facts c = task-facts (frame (c .before .before .before)) (c .before .next2 .given .1)
 
-lines : (c : tie.After-read-task Inv-loop μ-loop) → TaskTurn (c .before .before .before .before .before .before .before .before .before .before .before .before .args .text .now) (c .before .before .before .before .before .before .before .before .loop .table) (c .before .before .before .before .before .before .before .before .loop .at) (c .before .before .before .before .before .before .before .before .loop .line) (c .before .before .before .next2 .given .0 .0) (c .before .before .before .next2 .given .0 .1 .0) (c .read-task .result)
-lines c = record { frame = record { turn = (c .before .before .before .before .before .before .before .before .loop .inv); gives = sym (c .before .before .before .next2 .given .1) ∙ (c .before .before .before .before .before .task-or-end-line .ensures) }; gives = (c .read-task .ensures) }
+lines : (c : tie.After-read-task Inv-loop μ-loop) →
+    let next = c .before .before .before in
+    let counts = next .next2 .given .0 in
+    let l = next .before .before .before .before .before in
+    let text = l .before .before .before .before .args .text .now in
+    TaskTurn text (l .loop .table) (l .loop .at) (l .loop .line) (counts .0) (counts .1 .0) (c .read-task .result)
+lines c =
+    let next = c .before .before .before in
+    let line = next .before .before in
+    record {
+      frame = record { turn = line .before .before .before .loop .inv; gives = sym (next .next2 .given .1) ∙ line .task-or-end-line .ensures };
+      gives = c .read-task .ensures;
+    }
 
 worths-requires : tie.Need-worths-requires Inv-loop μ-loop
 worths-requires c κs = search needs
@@ -50,7 +68,10 @@ refused-requires : tie.Need-refused-requires Inv-loop μ-loop
 refused-requires c κs = search needs
 
 returns : tie.Need-returns Inv-loop μ-loop
-returns c = (c .refused .ensures) ∙ frame-refused (frame (c .before .before .before .before)) (c .before .before .next .given .1)
+returns c =
+    let at-next = c .before .before in
+    let at-place = at-next .before .before in
+    (c .refused .ensures) ∙ frame-refused (frame (at-place)) (at-next .next .given .1)
 
 enum-told : tie.Need-enum-told Inv-loop μ-loop
 enum-told c = search needs
@@ -65,7 +86,10 @@ refused-requires-2 : tie.Need-refused-requires-2 Inv-loop μ-loop
 refused-requires-2 c κs = search needs
 
 returns-2 : tie.Need-returns-2 Inv-loop μ-loop
-returns-2 c = (c .refused2 .ensures) ∙ end-not-last (frame (c .before .before .before .before)) (c .before .before .enum-told .given .1) (c .before .if1 .taken)
+returns-2 c =
+    let at-enum-told = c .before .before in
+    let at-place = at-enum-told .before .before in
+    (c .refused2 .ensures) ∙ end-not-last (frame (at-place)) (at-enum-told .enum-told .given .1) (c .before .if1 .taken)
 
 returns-3 : tie.Need-returns-3 Inv-loop μ-loop
 returns-3 c = end-last (frame (c .before .before .before)) (c .before .enum-told .given .1) (c .if1 .left)
@@ -77,7 +101,10 @@ add-read-task : tie.Need-add-read-task Inv-loop μ-loop
 add-read-task c = let f = facts (c .before) in omega arith
 
 read-task-requires : tie.Need-read-task-requires Inv-loop μ-loop
-read-task-requires c κs = let f = facts (c .before) in (omega arith, omega arith, omega arith, (c .before .before .before .before .before .before .before .before .before .worths .ensures))
+read-task-requires c κs =
+    let f = facts (c .before) in
+    let made = c .before .before .before .before .before .before .before .before .before in
+    (omega arith, omega arith, omega arith, made .worths .ensures)
 
 enum-known-outcome : tie.Need-enum-known-outcome Inv-loop μ-loop
 enum-known-outcome c = search needs
@@ -86,13 +113,20 @@ add-refused-2 : tie.Need-add-refused-2 Inv-loop μ-loop
 add-refused-2 c = let f = facts (c .before .before .before .before .before) in omega arith
 
 add-refused-3 : tie.Need-add-refused-3 Inv-loop μ-loop
-add-refused-3 c = let f = facts (c .before .before .before .before .before .before) in omega (arith, lines-few (lines (c .before .before .before .before)))
+add-refused-3 c =
+    let f = facts (c .before .before .before .before .before .before) in
+    omega (arith, lines-few (lines (c .before .before .before .before)))
 
 refused-requires-3 : tie.Need-refused-requires-3 Inv-loop μ-loop
-refused-requires-3 c κs = let f = facts (c .before .before .before .before .before .before) in omega (arith, lines-few (lines (c .before .before .before .before)))
+refused-requires-3 c κs =
+    let f = facts (c .before .before .before .before .before .before) in
+    omega (arith, lines-few (lines (c .before .before .before .before)))
 
 returns-4 : tie.Need-returns-4 Inv-loop μ-loop
-returns-4 c = (c .refused3 .ensures) ∙ task-stops (lines (c .before .before .before .before .before)) (c .before .before .before .outcome .given .1)
+returns-4 c =
+    let at-outcome = c .before .before .before in
+    let at-place = at-outcome .before .before in
+    (c .refused3 .ensures) ∙ task-stops (lines (at-place)) (at-outcome .outcome .given .1)
 
 enum-told-2 : tie.Need-enum-told-2 Inv-loop μ-loop
 enum-told-2 c = search needs

@@ -12,7 +12,9 @@ cast-t4 : tie.Need-cast-t4
 cast-t4 c = search needs
 
 returns : tie.Need-returns
-returns c = ap (λ (t : Table). record { status = Refused (record { refusal = (c .before .args .refusal); place = (c .before .args .line) }); table = t }) (c .no-table .ensures)
+returns c =
+    let a = c .before .args in
+    ap (λ (t : Table). record { status = Refused (record { refusal = a .refusal; place = a .line }); table = t }) (c .no-table .ensures)
 
 pub refused-spec : {M : Type 1} → statement M
 refused-spec = tie.close (tie.spec no-table-requires cast-t4 returns)

@@ -6,7 +6,10 @@ use Rattle.reader.proofs.text_check.Statement.{statement}
 use Rattle.reader.proofs.text_check.Tie as tie
 
 refusal : (c : tie.After-known-told) → LineRefused (c .before .before .before .before .before .args .text .now) (c .before .status .given .0 .0)
-refusal c = line-refused (c .before .before .before .before .before .args .text .now) (c .before .before .before .read .result) (c .before .before .before .read .ensures) (c .before .status .given .1)
+refusal c =
+    let at-read = c .before .before .before in
+    let at-args = at-read .before .before in
+    line-refused (at-args .args .text .now) (at-read .read .result) (at-read .read .ensures) (c .before .status .given .1)
 
 read-requires : tie.Need-read-requires
 read-requires c κs = search needs
@@ -18,7 +21,10 @@ enum-told : tie.Need-enum-told
 enum-told c = search needs
 
 returns : tie.Need-returns
-returns c = check-readable (table-read (c .before .before .before .before .args .text .now) (c .before .before .read .result) (c .before .before .read .ensures) (c .enum-told .given .1))
+returns c =
+    let at-read = c .before .before in
+    let at-args = at-read .before .before in
+    check-readable (table-read (at-args .args .text .now) (at-read .read .result) (at-read .read .ensures) (c .enum-told .given .1))
 
 refusal-number-requires : tie.Need-refusal-number-requires
 refusal-number-requires c κs = search needs

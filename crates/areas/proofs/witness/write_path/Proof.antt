@@ -26,7 +26,9 @@ add-from : tie.Need-add-from Inv-loop μ-loop
 add-from c = search needs
 
 loop-holds : tie.Need-loop-holds Inv-loop μ-loop
-loop-holds c = let f : (c .args .t3 .len) ≤ length (c .args .t3 .vertices) = omega (arith, (c .pre) .0, (c .pre) .1) in (f, placing-none _ _ _ (rw length-set (omega (arith, (c .pre) .2, numbers-length (c .args .t3 .len) (c .args .t3 .vertices) f))))
+loop-holds c =
+    let f : (c .args .t3 .len) ≤ length (c .args .t3 .vertices) = omega (arith, (c .pre) .0, (c .pre) .1) in
+    (f, placing-none _ _ _ (rw length-set (omega (arith, (c .pre) .2, numbers-length (c .args .t3 .len) (c .args .t3 .vertices) f))))
 
 element-copy-out-v : tie.Need-element-copy-out-v Inv-loop μ-loop
 element-copy-out-v c = search needs
@@ -41,7 +43,11 @@ mul-witness-2 : tie.Need-mul-witness-2 Inv-loop μ-loop
 mul-witness-2 c = search needs
 
 slice-write-witness-2 : tie.Need-slice-write-witness-2 Inv-loop μ-loop
-slice-write-witness-2 c = omega (arith, (c .before .before .before .loop .inv) .1 .same, (c .before .before .before .loop .inv) .1 .room, numbers-length (c .before .before .before .before .args .t3 .len) (c .before .before .before .before .args .t3 .vertices) ((c .before .before .before .loop .inv) .0))
+slice-write-witness-2 c =
+    let at-loop = c .before .before .before in
+    let entry = at-loop .before in
+    omega
+    (arith, (at-loop .loop .inv) .1 .same, (at-loop .loop .inv) .1 .room, numbers-length (entry .args .t3 .len) (entry .args .t3 .vertices) ((at-loop .loop .inv) .0))
 
 add-i : tie.Need-add-i Inv-loop μ-loop
 add-i c = search needs
@@ -50,7 +56,11 @@ loop-less : tie.Need-loop-less Inv-loop μ-loop
 loop-less c = search needs
 
 loop-again : tie.Need-loop-again Inv-loop μ-loop
-loop-again c = ((c .before .before .before .loop .inv) .0, placing-more _ ((c .before .before .before .loop .inv) .1) (omega (arith, numbers-length (c .before .before .before .before .args .t3 .len) (c .before .before .before .before .args .t3 .vertices) ((c .before .before .before .loop .inv) .0))) (number-at (c .before .before .before .before .args .t3 .len) (c .before .before .before .before .args .t3 .vertices) _ (c .before .before .before .loop .i) ((c .before .before .before .loop .inv) .0) (search needs)))
+loop-again c =
+    let test = c .before .before in
+    let at-loop = test .before in
+    let entry = at-loop .before in
+    ((at-loop .loop .inv) .0, placing-more _ ((at-loop .loop .inv) .1) (omega (arith, numbers-length (entry .args .t3 .len) (entry .args .t3 .vertices) ((at-loop .loop .inv) .0))) (number-at (entry .args .t3 .len) (entry .args .t3 .vertices) _ (at-loop .loop .i) ((at-loop .loop .inv) .0) (test .loop-test .taken)))
 
 add-result : tie.Need-add-result Inv-loop μ-loop
 add-result c = search needs
@@ -59,7 +69,11 @@ same-length : tie.Need-same-length Inv-loop μ-loop
 same-length c = (c .before .loop .inv) .1 .same ∙ rw length-set
 
 returns : tie.Need-returns Inv-loop μ-loop
-returns c = wrote-length-then _ _ _ _ _ _ (placing-all (c .before .before .args .t3 .len) ((c .before .loop .inv) .1) (numbers-length (c .before .before .args .t3 .len) (c .before .before .args .t3 .vertices) ((c .before .loop .inv) .0)) (search needs))
+returns c =
+    let at-loop = c .before in
+    let entry = at-loop .before in
+    wrote-length-then _ _ _ _ _ _
+    (placing-all (entry .args .t3 .len) ((at-loop .loop .inv) .1) (numbers-length (entry .args .t3 .len) (entry .args .t3 .vertices) ((at-loop .loop .inv) .0)) (c .loop-test .left))
 
 pub write-path-spec : {M : Type 1} → statement M
 write-path-spec =

@@ -27,7 +27,11 @@ same-length : tie.Need-same-length
 same-length c = search needs
 
 returns : tie.Need-returns
-returns c = let s = c .before .before .before in wrote-byte (s .args .out .now) (s .args .at) (s .args .b) (c .before .digit .result) (c .digit2 .result) (c .before .digit .ensures) (c .digit2 .ensures)
+returns c =
+    let low = c .digit2 in
+    let high = c .before .digit in
+    let s = c .before .before .before .args in
+    wrote-byte (s .out .now) (s .at) (s .b) (high .result) (low .result) (high .ensures) (low .ensures)
 
 pub put-byte-spec : {M : Type 1} → statement M
 put-byte-spec =

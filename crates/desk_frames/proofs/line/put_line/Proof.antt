@@ -9,10 +9,15 @@ put-bytes-requires : tie.Need-put-bytes-requires
 put-bytes-requires c κs = search needs
 
 slice-write-out : tie.Need-slice-write-out
-slice-write-out c = omega (arith, digits-end (c .before .before .before .before .before .before .args .frame .now) (c .before .before .put-bytes .ensures), wrote-length (c .before .before .put-bytes .ensures))
+slice-write-out c =
+    let f = c .before .before .before .before .before .before .args .frame .now in
+    let w = c .before .before .put-bytes .ensures in
+    omega (arith, digits-end f w, wrote-length w)
 
 add-result : tie.Need-add-result
-add-result c = omega (arith, digits-end (c .before .before .before .before .before .before .args .frame .now) (c .before .before .put-bytes .ensures))
+add-result c =
+    let f = c .before .before .before .before .before .before .args .frame .now in
+    omega (arith, digits-end f (c .before .before .put-bytes .ensures))
 
 same-length : tie.Need-same-length
 same-length c = search needs

@@ -1,10 +1,20 @@
 use native.Mathlib.Omega.{arith}
-use Rattle.meaning.specs.Desk.{pathFrame}
+use Rattle.meaning.specs.Areas.{Wrote}
+use Rattle.meaning.specs.Lists.{gather}
+use Rattle.meaning.specs.Desk.{digits, pathFrame}
 use Rattle.desk_frames.proofs.Lines.{digits-end, wrote-line, head-then}
 use Rattle.meaning.proofs.Wrote.{wrote-length}
 use borrow.Author.Needs.{needs}
 use Rattle.desk_frames.proofs.path.path_line.Statement.{statement}
 use Rattle.desk_frames.proofs.path.path_line.Tie as tie
+
+-- the frame's digits stand in the area
+frame : (c : tie.After-put-vertices)
+    → (let s = c .before .before .before .before .before .before .before .before .before .args in
+    Wrote (gather digits (pathFrame (s .task) (s .path .now))) (s .out .now) (s .at) (c .put-vertices .last .0) (c .put-vertices .result))
+frame c =
+    let s = c .before .before .before .before .before .before .before .before .before .args in
+    head-then (s .task) (s .path .now) (c .before .before .before .before .put-bytes .ensures) (c .put-vertices .ensures)
 
 cast-t9 : tie.Need-cast-t9
 cast-t9 c = search needs
@@ -19,16 +29,25 @@ put-vertices-requires : tie.Need-put-vertices-requires
 put-vertices-requires c κs = search needs
 
 slice-write-out : tie.Need-slice-write-out
-slice-write-out c = let w = head-then (c .before .before .before .before .before .before .before .before .before .before .before .args .task) (c .before .before .before .before .before .before .before .before .before .before .before .args .path .now) (c .before .before .before .before .before .before .put-bytes .ensures) (c .before .before .put-vertices .ensures) in omega (arith, digits-end (pathFrame (c .before .before .before .before .before .before .before .before .before .before .before .args .task) (c .before .before .before .before .before .before .before .before .before .before .before .args .path .now)) w, wrote-length w)
+slice-write-out c =
+    let s = c .before .before .before .before .before .before .before .before .before .before .before .args in
+    let w = frame (c .before .before) in
+    omega (arith, digits-end (pathFrame (s .task) (s .path .now)) w, wrote-length w)
 
 add-result : tie.Need-add-result
-add-result c = let w = head-then (c .before .before .before .before .before .before .before .before .before .before .before .args .task) (c .before .before .before .before .before .before .before .before .before .before .before .args .path .now) (c .before .before .before .before .before .before .put-bytes .ensures) (c .before .before .put-vertices .ensures) in omega (arith, digits-end (pathFrame (c .before .before .before .before .before .before .before .before .before .before .before .args .task) (c .before .before .before .before .before .before .before .before .before .before .before .args .path .now)) w)
+add-result c =
+    let s = c .before .before .before .before .before .before .before .before .before .before .before .args in
+    omega (arith, digits-end (pathFrame (s .task) (s .path .now)) (frame (c .before .before)))
 
 same-length : tie.Need-same-length
-same-length c = wrote-length (wrote-line (pathFrame (c .before .before .before .before .before .before .before .before .before .before .before .args .task) (c .before .before .before .before .before .before .before .before .before .before .before .args .path .now)) (head-then (c .before .before .before .before .before .before .before .before .before .before .before .args .task) (c .before .before .before .before .before .before .before .before .before .before .before .args .path .now) (c .before .before .before .before .before .before .put-bytes .ensures) (c .before .before .put-vertices .ensures)))
+same-length c =
+    let s = c .before .before .before .before .before .before .before .before .before .before .before .args in
+    wrote-length (wrote-line (pathFrame (s .task) (s .path .now)) (frame (c .before .before)))
 
 returns : tie.Need-returns
-returns c = wrote-line (pathFrame (c .before .before .before .before .before .before .before .before .before .before .before .args .task) (c .before .before .before .before .before .before .before .before .before .before .before .args .path .now)) (head-then (c .before .before .before .before .before .before .before .before .before .before .before .args .task) (c .before .before .before .before .before .before .before .before .before .before .before .args .path .now) (c .before .before .before .before .before .before .put-bytes .ensures) (c .before .before .put-vertices .ensures))
+returns c =
+    let s = c .before .before .before .before .before .before .before .before .before .before .before .args in
+    wrote-line (pathFrame (s .task) (s .path .now)) (frame (c .before .before))
 
 pub path-line-spec : {M : Type 1} → statement M
 path-line-spec =

@@ -33,7 +33,10 @@ loop-less : tie.Need-loop-less Inv-loop μ-loop
 loop-less c = search needs
 
 loop-again : tie.Need-loop-again Inv-loop μ-loop
-loop-again c = putting-more (c .before .before .before .before .before .before .loop .inv) (search needs) (wrote-low ((c .before .before .before .before .before .before .before .before .before .pre) .1 (c .before .before .before .before .before .before .loop .i)) (c .before .before .put-byte .ensures))
+loop-again c =
+    let put = c .before .before in
+    let turn = put .before .before .before .before in
+    putting-more (turn .loop .inv) (search needs) (wrote-low (turn .before .before .before .pre .1 (turn .loop .i)) (put .put-byte .ensures))
 
 same-length : tie.Need-same-length Inv-loop μ-loop
 same-length c = search needs

@@ -1,124 +1,399 @@
+use Prim.Native.Nat.{_-_, _≤_, _<_}
 use native.Mathlib.Omega.{arith}
-use Rattle.table.proofs.Records.{held-few}
-use Rattle.table.proofs.Vertices.{own-few}
-use Rattle.judge.proofs.OneVertex.{count-asks, need-small, cells-small, answer-8, answer-8-vertex, answer-9, answer-10, answer-11, walk-asks, answer-walk}
 use borrow.Author.Needs.{needs}
+use Rattle.meaning.specs.Table.{higher}
+use Rattle.table.specs.Record.{tableOf}
+use Rattle.table.proofs.Records.{held-few}
+use Rattle.meaning.specs.Bounds.{mostVertices}
+use Rattle.table.proofs.Vertices.{ownTask, own-few}
+use Rattle.judge.proofs.Higher.{CountedTo, FilledTo}
+use Rattle.judge.proofs.OneVertex.{Asked, AllCounted, RowsPassed, AllFilled, Ran}
+use Rattle.judge.proofs.OneVertex.{task-in, vertex-in, counting-none, count-asks, answer-9, with-paths-asks, counting-more, area-asks, answer-areas, filling-none}
+use Rattle.judge.proofs.OneVertex.{stretch-asks, filling-more, search-asks, missing-none, write-asks, missing-more, missing-all, cells-few, answer-meets, answer-unfinished, answer-misses}
+use Rattle.judge.proofs.Missing.{MissTo}
 use Rattle.judge.proofs.vertex.judge_vertex.Statement.{statement}
 use Rattle.judge.proofs.vertex.judge_vertex.Tie as tie
 
-cast-h : tie.Need-cast-h
+abbrev Inv-loop : tie.InvT-loop
+Inv-loop budget work witness t h job above₀ j₀ above j = CountedTo (higher (tableOf t) h) h (job .d .0) above j
+
+abbrev μ-loop : tie.MeasureT-loop
+μ-loop budget work witness t h job above₀ j₀ above j = h - j
+
+abbrev Inv-loop2 : tie.InvT-loop2
+Inv-loop2 budget work₀ witness t h job above j k₀ work k = FilledTo (higher (tableOf t) h) h (job .d .0) work₀ work k
+
+abbrev μ-loop2 : tie.MeasureT-loop2
+μ-loop2 budget work₀ witness t h job above j k₀ work k = h - k
+
+abbrev Inv-loop3 : tie.InvT-loop3
+Inv-loop3 budget work witness₀ t h job j k ending places cells₀ i₀ witness cells i =
+    MissTo (higher (tableOf t) h) h (job .d .0) places witness₀ witness cells i
+
+abbrev μ-loop3 : tie.MeasureT-loop3
+μ-loop3 budget work witness₀ t h job j k ending places cells₀ i₀ witness cells i = h - i
+
+-- what the call was asked
+abbrev asked : tie.Start Inv-loop μ-loop Inv-loop2 μ-loop2 Inv-loop3 μ-loop3 → Asked
+asked entry =
+    record {
+      table = entry .args .t1;
+      held = entry .pre .0;
+      task = entry .args .task .0;
+      vertex = entry .args .vertex .0;
+      budget = entry .args .budget;
+      work = entry .args .work .now;
+      witness = entry .args .witness .now;
+      there = entry .pre .1;
+    }
+
+-- where each of the first two loops ends, where no row refuses, and what the walk said
+abbrev counted-all : (c : tie.After-loop Inv-loop μ-loop Inv-loop2 μ-loop2 Inv-loop3 μ-loop3) → AllCounted (asked (c .before .before .before .before .before .before .before .before .before .before))
+counted-all c = record { above = c .before .loop .above; upTo = c .before .loop .j; counted = c .before .loop .inv; full = c .loop-test .left }
+
+abbrev rows-passed : (c : tie.After-enum-told Inv-loop μ-loop Inv-loop2 μ-loop2 Inv-loop3 μ-loop3) → RowsPassed _ (counted-all (c .before .before .before))
+rows-passed c = record { rows = c .before .before .area-rows .result; are = c .before .before .area-rows .ensures; passed = c .enum-told .given .1 }
+
+abbrev filled-all : (c : tie.After-loop2 Inv-loop μ-loop Inv-loop2 μ-loop2 Inv-loop3 μ-loop3) → AllFilled _ _ (rows-passed (c .before .before))
+filled-all c = record { cells = c .before .loop2 .work; upTo = c .before .loop2 .k; filled = c .before .loop2 .inv; full = c .loop2-test .left }
+
+abbrev ran : (c : tie.After-search Inv-loop μ-loop Inv-loop2 μ-loop2 Inv-loop3 μ-loop3) → Ran _ _ _ (filled-all (c .before .before))
+ran c = record { result = c .search .result; is = c .search .ensures .0 }
+
+cast-h : tie.Need-cast-h Inv-loop μ-loop Inv-loop2 μ-loop2 Inv-loop3 μ-loop3
 cast-h c = search needs
 
-refused-requires : tie.Need-refused-requires
-refused-requires c κs = search needs
-
-returns : tie.Need-returns
-returns c = answer-8 (c .before .before .before .before .before .args .t1) (c .before .before .before .before .before .pre) ((c .before .before .before .before .before .args .task) .0) ((c .before .before .before .before .before .args .vertex) .0) (c .before .before .before .before .before .args .budget) (c .before .before .before .before .before .args .work .now) (c .before .before .before .before .before .args .witness .now) (c .before .if1 .taken) (c .refused .ensures)
-
-mul-own : tie.Need-mul-own
+mul-own : tie.Need-mul-own Inv-loop μ-loop Inv-loop2 μ-loop2 Inv-loop3 μ-loop3
 mul-own c = search needs
 
-element-copy-out-own : tie.Need-element-copy-out-own
-element-copy-out-own c = omega (arith, held-few (c .before .before .before .before .args .t1) (c .before .before .before .before .pre))
+element-copy-out-own :
+    tie.Need-element-copy-out-own Inv-loop μ-loop Inv-loop2 μ-loop2 Inv-loop3 μ-loop3
+element-copy-out-own c =
+    let entry = c .before .before .before in
+    let l : entry .args .task .0 < entry .args .t1 .n = task-in (asked entry) in
+    omega (arith, held-few (entry .args .t1) (entry .pre .0))
 
-cast-v : tie.Need-cast-v
-cast-v c = search needs
+cast-job : tie.Need-cast-job Inv-loop μ-loop Inv-loop2 μ-loop2 Inv-loop3 μ-loop3
+cast-job c = search needs
 
-refused-requires-2 : tie.Need-refused-requires-2
-refused-requires-2 c κs = search needs
-
-returns-2 : tie.Need-returns-2
-returns-2 c = answer-8-vertex (c .before .before .before .before .before .before .before .before .args .t1) (c .before .before .before .before .before .before .before .before .pre) ((c .before .before .before .before .before .before .before .before .args .task) .0) ((c .before .before .before .before .before .before .before .before .args .vertex) .0) (c .before .before .before .before .before .before .before .before .args .budget) (c .before .before .before .before .before .before .before .before .args .work .now) (c .before .before .before .before .before .before .before .before .args .witness .now) (c .before .before .before .before .if1 .left) (c .before .if2 .taken) (c .refused2 .ensures)
-
-mul-job : tie.Need-mul-job
+mul-job : tie.Need-mul-job Inv-loop μ-loop Inv-loop2 μ-loop2 Inv-loop3 μ-loop3
 mul-job c = search needs
 
-element-copy-out-job : tie.Need-element-copy-out-job
-element-copy-out-job c = omega (arith, own-few (c .before .before .before .before .before .before .before .args .t1) (c .before .before .before .before .before .before .before .pre) ((c .before .before .before .before .before .before .before .args .task) .0) (c .before .before .before .if1 .left) .0)
+array-copy-out-job :
+    tie.Need-array-copy-out-job Inv-loop μ-loop Inv-loop2 μ-loop2 Inv-loop3 μ-loop3
+array-copy-out-job c =
+    let entry = c .before .before .before .before .before .before in
+    let few : ownTask (entry .args .t1) (entry .args .task .0) .nv ≤ mostVertices = own-few (entry .args .t1) (entry .pre .0) (entry .args .task .0) (task-in (asked entry)) .0 in
+    let m : entry .args .vertex .0 < ownTask (entry .args .t1) (entry .args .task .0) .nv = vertex-in (asked entry) in
+    omega arith
 
-count-above-requires : tie.Need-count-above-requires
-count-above-requires c κs = count-asks (c .before .before .before .before .before .before .before .before .args .t1) (c .before .before .before .before .before .before .before .before .pre) ((c .before .before .before .before .before .before .before .before .args .task) .0) ((c .before .before .before .before .before .before .before .before .args .vertex) .0) (c .before .before .before .before .before .before .before .before .args .budget) (c .before .before .before .before .before .before .before .before .args .work .now) (c .before .before .before .before .before .before .before .before .args .witness .now) (c .before .before .before .before .if1 .left) (c .before .if2 .left)
+none-above-requires :
+    tie.Need-none-above-requires Inv-loop μ-loop Inv-loop2 μ-loop2 Inv-loop3 μ-loop3
+none-above-requires c κs = search needs
 
-cast-refused : tie.Need-cast-refused
-cast-refused c = search needs
+loop-holds : tie.Need-loop-holds Inv-loop μ-loop Inv-loop2 μ-loop2 Inv-loop3 μ-loop3
+loop-holds c =
+    let entry = c .before .before .before .before .before .before .before .before in
+    counting-none (asked entry) (c .none-above .ensures)
 
-refused-requires-3 : tie.Need-refused-requires-3
-refused-requires-3 c κs = search needs
+mul-next : tie.Need-mul-next Inv-loop μ-loop Inv-loop2 μ-loop2 Inv-loop3 μ-loop3
+mul-next c = search needs
 
-returns-3 : tie.Need-returns-3
-returns-3 c = answer-9 (c .before .before .before .before .before .before .before .before .before .before .before .args .t1) (c .before .before .before .before .before .before .before .before .before .before .before .pre) ((c .before .before .before .before .before .before .before .before .before .before .before .args .task) .0) ((c .before .before .before .before .before .before .before .before .before .before .before .args .vertex) .0) (c .before .before .before .before .before .before .before .before .before .before .before .args .budget) (c .before .before .before .before .before .before .before .before .before .before .before .args .work .now) (c .before .before .before .before .before .before .before .before .before .before .before .args .witness .now) (c .before .before .before .before .before .before .before .if1 .left) (c .before .before .before .before .if2 .left) (c .before .before .count-above .result) (c .before .before .count-above .ensures) (c .before .if3 .taken) (c .refused3 .ensures)
+element-copy-out-next :
+    tie.Need-element-copy-out-next Inv-loop μ-loop Inv-loop2 μ-loop2 Inv-loop3 μ-loop3
+element-copy-out-next c = search needs
 
-cast-d : tie.Need-cast-d
-cast-d c = search needs
+add-path-count : tie.Need-add-path-count Inv-loop μ-loop Inv-loop2 μ-loop2 Inv-loop3 μ-loop3
+add-path-count c = search needs
 
-mul-need : tie.Need-mul-need
-mul-need c = omega (arith, need-small (c .before .before .before .before .before .before .before .before .before .before .before .before .args .t1) (c .before .before .before .before .before .before .before .before .before .before .before .before .pre) ((c .before .before .before .before .before .before .before .before .before .before .before .before .args .task) .0) ((c .before .before .before .before .before .before .before .before .before .before .before .before .args .vertex) .0) (c .before .before .before .before .before .before .before .before .before .before .before .before .args .budget) (c .before .before .before .before .before .before .before .before .before .before .before .before .args .work .now) (c .before .before .before .before .before .before .before .before .before .before .before .before .args .witness .now) (c .before .before .before .before .before .before .before .before .if1 .left) (c .before .before .before .before .before .if2 .left) (c .before .before .before .count-above .result) (c .before .before .before .count-above .ensures))
+path-count-requires :
+    tie.Need-path-count-requires Inv-loop μ-loop Inv-loop2 μ-loop2 Inv-loop3 μ-loop3
+path-count-requires c κs =
+    let counted = c .before in
+    let counting = counted .before in
+    let entry = counting .before .before .before .before .before .before .before .before .before in
+    count-asks (asked entry) _ (counting .loop .j) (counted .loop-test .taken)
 
-add-cells : tie.Need-add-cells
-add-cells c = search needs
+too-many-paths-requires :
+    tie.Need-too-many-paths-requires Inv-loop μ-loop Inv-loop2 μ-loop2 Inv-loop3 μ-loop3
+too-many-paths-requires c κs = search needs
 
-mul-cells : tie.Need-mul-cells
-mul-cells c = omega (arith, cells-small (c .before .before .before .before .before .before .before .before .before .before .before .before .args .t1) (c .before .before .before .before .before .before .before .before .before .before .before .before .pre) ((c .before .before .before .before .before .before .before .before .before .before .before .before .args .task) .0) ((c .before .before .before .before .before .before .before .before .before .before .before .before .args .vertex) .0) (c .before .before .before .before .before .before .before .before .before .before .before .before .args .budget) (c .before .before .before .before .before .before .before .before .before .before .before .before .args .work .now) (c .before .before .before .before .before .before .before .before .before .before .before .before .args .witness .now) (c .before .before .before .before .before .before .before .before .if1 .left) (c .before .before .before .before .before .if2 .left) (c .before .before .before .count-above .result) (c .before .before .before .count-above .ensures))
+returns : tie.Need-returns Inv-loop μ-loop Inv-loop2 μ-loop2 Inv-loop3 μ-loop3
+returns c =
+    let at-if1 = c .before in
+    let listed = at-if1 .before in
+    let counted = listed .before .before in
+    let counting = counted .before in
+    let entry = counting .before .before .before .before .before .before .before .before .before in
+    answer-9 (asked entry) (counting .loop .above) (counting .loop .j) (counting .loop .inv) _ (counted .loop-test .taken)
+    (listed .path-count .result) (listed .path-count .ensures) (at-if1 .if1 .taken) (c .too-many-paths .ensures)
 
-cast-refused-2 : tie.Need-cast-refused-2
-cast-refused-2 c = omega (arith, need-small (c .before .before .before .before .before .before .before .before .before .before .before .before .before .args .t1) (c .before .before .before .before .before .before .before .before .before .before .before .before .before .pre) ((c .before .before .before .before .before .before .before .before .before .before .before .before .before .args .task) .0) ((c .before .before .before .before .before .before .before .before .before .before .before .before .before .args .vertex) .0) (c .before .before .before .before .before .before .before .before .before .before .before .before .before .args .budget) (c .before .before .before .before .before .before .before .before .before .before .before .before .before .args .work .now) (c .before .before .before .before .before .before .before .before .before .before .before .before .before .args .witness .now) (c .before .before .before .before .before .before .before .before .before .if1 .left) (c .before .before .before .before .before .before .if2 .left) (c .before .before .before .before .count-above .result) (c .before .before .before .before .count-above .ensures))
+with-paths-requires :
+    tie.Need-with-paths-requires Inv-loop μ-loop Inv-loop2 μ-loop2 Inv-loop3 μ-loop3
+with-paths-requires c κs =
+    let listed = c .before in
+    let counted = listed .before .before in
+    let counting = counted .before in
+    let entry = counting .before .before .before .before .before .before .before .before .before in
+    with-paths-asks (asked entry) (counting .loop .above) (counting .loop .j) (counting .loop .inv) _ (counted .loop-test .taken)
+    (listed .path-count .result) (listed .path-count .ensures) (c .if1 .left)
 
-refused-requires-4 : tie.Need-refused-requires-4
-refused-requires-4 c κs = search needs
+add-j : tie.Need-add-j Inv-loop μ-loop Inv-loop2 μ-loop2 Inv-loop3 μ-loop3
+add-j c = search needs
 
-returns-4 : tie.Need-returns-4
-returns-4 c = answer-10 (c .before .before .before .before .before .before .before .before .before .before .before .before .before .before .args .t1) (c .before .before .before .before .before .before .before .before .before .before .before .before .before .before .pre) ((c .before .before .before .before .before .before .before .before .before .before .before .before .before .before .args .task) .0) ((c .before .before .before .before .before .before .before .before .before .before .before .before .before .before .args .vertex) .0) (c .before .before .before .before .before .before .before .before .before .before .before .before .before .before .args .budget) (c .before .before .before .before .before .before .before .before .before .before .before .before .before .before .args .work .now) (c .before .before .before .before .before .before .before .before .before .before .before .before .before .before .args .witness .now) (c .before .before .before .before .before .before .before .before .before .before .if1 .left) (c .before .before .before .before .before .before .before .if2 .left) (c .before .before .before .before .before .count-above .result) (c .before .before .before .before .before .count-above .ensures) (c .before .before .before .before .if3 .left) (c .before .if4 .taken) (c .refused4 .ensures)
+loop-less : tie.Need-loop-less Inv-loop μ-loop Inv-loop2 μ-loop2 Inv-loop3 μ-loop3
+loop-less c = search needs
 
-cast-refused-3 : tie.Need-cast-refused-3
-cast-refused-3 c = omega (arith, cells-small (c .before .before .before .before .before .before .before .before .before .before .before .before .before .before .args .t1) (c .before .before .before .before .before .before .before .before .before .before .before .before .before .before .pre) ((c .before .before .before .before .before .before .before .before .before .before .before .before .before .before .args .task) .0) ((c .before .before .before .before .before .before .before .before .before .before .before .before .before .before .args .vertex) .0) (c .before .before .before .before .before .before .before .before .before .before .before .before .before .before .args .budget) (c .before .before .before .before .before .before .before .before .before .before .before .before .before .before .args .work .now) (c .before .before .before .before .before .before .before .before .before .before .before .before .before .before .args .witness .now) (c .before .before .before .before .before .before .before .before .before .before .if1 .left) (c .before .before .before .before .before .before .before .if2 .left) (c .before .before .before .before .before .count-above .result) (c .before .before .before .before .before .count-above .ensures))
+loop-again : tie.Need-loop-again Inv-loop μ-loop Inv-loop2 μ-loop2 Inv-loop3 μ-loop3
+loop-again c =
+    let at-if1 = c .before in
+    let listed = at-if1 .before in
+    let counted = listed .before .before in
+    let counting = counted .before in
+    let entry = counting .before .before .before .before .before .before .before .before .before in
+    counting-more (asked entry) (counting .loop .above) (counting .loop .j) (counting .loop .inv) _ (counted .loop-test .taken)
+    (listed .path-count .result) (listed .path-count .ensures) (at-if1 .if1 .left) (c .with-paths .ensures)
 
-refused-requires-5 : tie.Need-refused-requires-5
-refused-requires-5 c κs = search needs
+area-rows-requires :
+    tie.Need-area-rows-requires Inv-loop μ-loop Inv-loop2 μ-loop2 Inv-loop3 μ-loop3
+area-rows-requires c κs =
+    area-asks _ (counted-all c)
 
-returns-5 : tie.Need-returns-5
-returns-5 c = answer-11 (c .before .before .before .before .before .before .before .before .before .before .before .before .before .before .before .args .t1) (c .before .before .before .before .before .before .before .before .before .before .before .before .before .before .before .pre) ((c .before .before .before .before .before .before .before .before .before .before .before .before .before .before .before .args .task) .0) ((c .before .before .before .before .before .before .before .before .before .before .before .before .before .before .before .args .vertex) .0) (c .before .before .before .before .before .before .before .before .before .before .before .before .before .before .before .args .budget) (c .before .before .before .before .before .before .before .before .before .before .before .before .before .before .before .args .work .now) (c .before .before .before .before .before .before .before .before .before .before .before .before .before .before .before .args .witness .now) (c .before .before .before .before .before .before .before .before .before .before .before .if1 .left) (c .before .before .before .before .before .before .before .before .if2 .left) (c .before .before .before .before .before .before .count-above .result) (c .before .before .before .before .before .before .count-above .ensures) (c .before .before .before .before .before .if3 .left) (c .before .before .if4 .left) (c .before .if5 .taken) (c .refused5 .ensures)
+enum-known-rows : tie.Need-enum-known-rows Inv-loop μ-loop Inv-loop2 μ-loop2 Inv-loop3 μ-loop3
+enum-known-rows c = search needs
 
-walk-above-requires : tie.Need-walk-above-requires
-walk-above-requires c κs = walk-asks (c .before .before .before .before .before .before .before .before .before .before .before .before .before .before .before .before .args .t1) (c .before .before .before .before .before .before .before .before .before .before .before .before .before .before .before .before .pre) ((c .before .before .before .before .before .before .before .before .before .before .before .before .before .before .before .before .args .task) .0) ((c .before .before .before .before .before .before .before .before .before .before .before .before .before .before .before .before .args .vertex) .0) (c .before .before .before .before .before .before .before .before .before .before .before .before .before .before .before .before .args .budget) (c .before .before .before .before .before .before .before .before .before .before .before .before .before .before .before .before .args .work .now) (c .before .before .before .before .before .before .before .before .before .before .before .before .before .before .before .before .args .witness .now) (c .before .before .before .before .before .before .before .before .before .before .before .before .if1 .left) (c .before .before .before .before .before .before .before .before .before .if2 .left) (c .before .before .before .before .before .before .before .count-above .result) (c .before .before .before .before .before .before .before .count-above .ensures) (c .before .before .before .before .before .before .if3 .left) (c .before .before .before .if4 .left) (c .before .before .if5 .left)
+returns-2 : tie.Need-returns-2 Inv-loop μ-loop Inv-loop2 μ-loop2 Inv-loop3 μ-loop3
+returns-2 c =
+    let at-rows = c .before in
+    let sheet = at-rows .before .before in
+    let counted = sheet .before in
+    answer-areas _ (counted-all counted) (sheet .area-rows .ensures) (at-rows .rows .given .1)
 
-same-length : tie.Need-same-length
+enum-told : tie.Need-enum-told Inv-loop μ-loop Inv-loop2 μ-loop2 Inv-loop3 μ-loop3
+enum-told c = search needs
+
+loop2-holds : tie.Need-loop2-holds Inv-loop μ-loop Inv-loop2 μ-loop2 Inv-loop3 μ-loop3
+loop2-holds c =
+    filling-none _ _ (rows-passed c)
+
+mul-next-2 : tie.Need-mul-next-2 Inv-loop μ-loop Inv-loop2 μ-loop2 Inv-loop3 μ-loop3
+mul-next-2 c = search needs
+
+element-copy-out-next-2 :
+    tie.Need-element-copy-out-next-2 Inv-loop μ-loop Inv-loop2 μ-loop2 Inv-loop3 μ-loop3
+element-copy-out-next-2 c = search needs
+
+mul-from : tie.Need-mul-from Inv-loop μ-loop Inv-loop2 μ-loop2 Inv-loop3 μ-loop3
+mul-from c = search needs
+
+element-copy-out-from :
+    tie.Need-element-copy-out-from Inv-loop μ-loop Inv-loop2 μ-loop2 Inv-loop3 μ-loop3
+element-copy-out-from c = search needs
+
+mul-paths : tie.Need-mul-paths Inv-loop μ-loop Inv-loop2 μ-loop2 Inv-loop3 μ-loop3
+mul-paths c = search needs
+
+element-copy-out-paths :
+    tie.Need-element-copy-out-paths Inv-loop μ-loop Inv-loop2 μ-loop2 Inv-loop3 μ-loop3
+element-copy-out-paths c = search needs
+
+fill-stretch-requires :
+    tie.Need-fill-stretch-requires Inv-loop μ-loop Inv-loop2 μ-loop2 Inv-loop3 μ-loop3
+fill-stretch-requires c κs =
+    let filled = c .before .before .before .before in
+    let filling = filled .before in
+    let passed = filling .before in
+    stretch-asks _ _ (rows-passed passed) _ (filling .loop2 .inv) (filled .loop2-test .taken)
+
+add-k : tie.Need-add-k Inv-loop μ-loop Inv-loop2 μ-loop2 Inv-loop3 μ-loop3
+add-k c = search needs
+
+loop2-less : tie.Need-loop2-less Inv-loop μ-loop Inv-loop2 μ-loop2 Inv-loop3 μ-loop3
+loop2-less c = search needs
+
+loop2-again : tie.Need-loop2-again Inv-loop μ-loop Inv-loop2 μ-loop2 Inv-loop3 μ-loop3
+loop2-again c =
+    let at-fill-stretch = c .before .before in
+    let filled = at-fill-stretch .before .before .before .before .before in
+    let filling = filled .before in
+    let passed = filling .before in
+    filling-more _ _ (rows-passed passed) _ (filling .loop2 .inv) (filled .loop2-test .taken) (at-fill-stretch .fill-stretch .ensures)
+
+search-requires : tie.Need-search-requires Inv-loop μ-loop Inv-loop2 μ-loop2 Inv-loop3 μ-loop3
+search-requires c κs =
+    let filled = c .before in
+    search-asks _ _ _ (filled-all filled)
+
+enum-told-2 : tie.Need-enum-told-2 Inv-loop μ-loop Inv-loop2 μ-loop2 Inv-loop3 μ-loop3
+enum-told-2 c = search needs
+
+said-requires : tie.Need-said-requires Inv-loop μ-loop Inv-loop2 μ-loop2 Inv-loop3 μ-loop3
+said-requires c κs = search needs
+
+enum-told-3 : tie.Need-enum-told-3 Inv-loop μ-loop Inv-loop2 μ-loop2 Inv-loop3 μ-loop3
+enum-told-3 c = search needs
+
+said-requires-2 : tie.Need-said-requires-2 Inv-loop μ-loop Inv-loop2 μ-loop2 Inv-loop3 μ-loop3
+said-requires-2 c κs = search needs
+
+enum-told-4 : tie.Need-enum-told-4 Inv-loop μ-loop Inv-loop2 μ-loop2 Inv-loop3 μ-loop3
+enum-told-4 c = search needs
+
+loop3-holds : tie.Need-loop3-holds Inv-loop μ-loop Inv-loop2 μ-loop2 Inv-loop3 μ-loop3
+loop3-holds c =
+    let searched = c .before .before .before .before .before in
+    missing-none _ _ _ _ (ran searched)
+
+mul-next-3 : tie.Need-mul-next-3 Inv-loop μ-loop Inv-loop2 μ-loop2 Inv-loop3 μ-loop3
+mul-next-3 c = search needs
+
+element-copy-out-next-3 :
+    tie.Need-element-copy-out-next-3 Inv-loop μ-loop Inv-loop2 μ-loop2 Inv-loop3 μ-loop3
+element-copy-out-next-3 c = search needs
+
+mul-write-place : tie.Need-mul-write-place Inv-loop μ-loop Inv-loop2 μ-loop2 Inv-loop3 μ-loop3
+mul-write-place c = search needs
+
+array-read-write-place :
+    tie.Need-array-read-write-place Inv-loop μ-loop Inv-loop2 μ-loop2 Inv-loop3 μ-loop3
+array-read-write-place c = search needs
+
+write-place-requires :
+    tie.Need-write-place-requires Inv-loop μ-loop Inv-loop2 μ-loop2 Inv-loop3 μ-loop3
+write-place-requires c κs =
+    let written = c .before .before in
+    let writing = written .before in
+    let missed = writing .before .before in
+    let searched = missed .before .before .before .before in
+    write-asks _ _ _ _ (ran searched) _ (writing .loop3 .inv) (written .loop3-test .taken) (missed .enum-told4 .given .0 .0)
+    (missed .enum-told4 .given .1)
+
+add-i : tie.Need-add-i Inv-loop μ-loop Inv-loop2 μ-loop2 Inv-loop3 μ-loop3
+add-i c = search needs
+
+loop3-less : tie.Need-loop3-less Inv-loop μ-loop Inv-loop2 μ-loop2 Inv-loop3 μ-loop3
+loop3-less c = search needs
+
+loop3-again : tie.Need-loop3-again Inv-loop μ-loop Inv-loop2 μ-loop2 Inv-loop3 μ-loop3
+loop3-again c =
+    let wrote = c .before .before in
+    let written = wrote .before .before .before in
+    let writing = written .before in
+    let searched = writing .before .before .before .before .before .before in
+    missing-more _ _ _ _ (ran searched) _ (writing .loop3 .inv) (written .loop3-test .taken) (wrote .write-place .ensures)
+
+said-requires-3 : tie.Need-said-requires-3 Inv-loop μ-loop Inv-loop2 μ-loop2 Inv-loop3 μ-loop3
+said-requires-3 c κs =
+    let writing = c .before in
+    let searched = writing .before .before .before .before .before .before in
+    let all = (
+    missing-all _ _ _ _ (ran searched) (writing .loop3 .inv) (c .loop3-test .left)
+    ) in
+    cells-few _ _ _ _ (ran searched) (all .1)
+
+same-length : tie.Need-same-length Inv-loop μ-loop Inv-loop2 μ-loop2 Inv-loop3 μ-loop3
 same-length c = search needs
 
-same-length-2 : tie.Need-same-length-2
+returns-3 : tie.Need-returns-3 Inv-loop μ-loop Inv-loop2 μ-loop2 Inv-loop3 μ-loop3
+returns-3 c =
+    let met = c .before in
+    let searched = met .before .before .before .before in
+    answer-meets _ _ _ _ (ran searched) (searched .search .last .0) (searched .search .ensures .1) (met .enum-told2 .given .0 .0)
+    (met .enum-told2 .given .1) (c .said .ensures)
+
+same-length-2 : tie.Need-same-length-2 Inv-loop μ-loop Inv-loop2 μ-loop2 Inv-loop3 μ-loop3
 same-length-2 c = search needs
 
-returns-6 : tie.Need-returns-6
-returns-6 c = answer-walk (c .before .before .before .before .before .before .before .before .before .before .before .before .before .before .before .before .before .before .before .before .before .args .t1) (c .before .before .before .before .before .before .before .before .before .before .before .before .before .before .before .before .before .before .before .before .before .pre) ((c .before .before .before .before .before .before .before .before .before .before .before .before .before .before .before .before .before .before .before .before .before .args .task) .0) ((c .before .before .before .before .before .before .before .before .before .before .before .before .before .before .before .before .before .before .before .before .before .args .vertex) .0) (c .before .before .before .before .before .before .before .before .before .before .before .before .before .before .before .before .before .before .before .before .before .args .budget) (c .before .before .before .before .before .before .before .before .before .before .before .before .before .before .before .before .before .before .before .before .before .args .work .now) (c .before .before .before .before .before .before .before .before .before .before .before .before .before .before .before .before .before .before .before .before .before .args .witness .now) (c .before .before .before .before .before .before .before .before .before .before .before .before .before .before .before .before .before .if1 .left) (c .before .before .before .before .before .before .before .before .before .before .before .before .before .before .if2 .left) (c .before .before .before .before .before .before .before .before .before .before .before .before .count-above .result) (c .before .before .before .before .before .before .before .before .before .before .before .before .count-above .ensures) (c .before .before .before .before .before .before .before .before .before .before .before .if3 .left) (c .before .before .before .before .before .before .before .before .if4 .left) (c .before .before .before .before .walk-above .result) _ _ (c .before .before .before .before .before .before .before .if5 .left) (c .before .before .before .before .walk-above .ensures)
+returns-4 : tie.Need-returns-4 Inv-loop μ-loop Inv-loop2 μ-loop2 Inv-loop3 μ-loop3
+returns-4 c =
+    let cut = c .before in
+    let searched = cut .before .before .before .before in
+    answer-unfinished _ _ _ _ (ran searched) (searched .search .last .0) (searched .search .ensures .1) (cut .enum-told3 .given .0 .0)
+    (cut .enum-told3 .given .1) (c .said2 .ensures)
+
+same-length-3 : tie.Need-same-length-3 Inv-loop μ-loop Inv-loop2 μ-loop2 Inv-loop3 μ-loop3
+same-length-3 c = search needs
+
+same-length-4 : tie.Need-same-length-4 Inv-loop μ-loop Inv-loop2 μ-loop2 Inv-loop3 μ-loop3
+same-length-4 c =
+    let writing = c .before .before in
+    writing .loop3 .inv .gathered .same
+
+returns-5 : tie.Need-returns-5 Inv-loop μ-loop Inv-loop2 μ-loop2 Inv-loop3 μ-loop3
+returns-5 c =
+    let written = c .before in
+    let writing = written .before in
+    let missed = writing .before .before in
+    let searched = missed .before .before .before .before in
+    let all = (
+    missing-all _ _ _ _ (ran searched) (writing .loop3 .inv) (written .loop3-test .left)
+    ) in
+    answer-misses _ _ _ _ (ran searched) (searched .search .last .0) (searched .search .ensures .1) (missed .enum-told4 .given .0 .0)
+    (missed .enum-told4 .given .1) (writing .loop3 .cells) (writing .loop3 .witness) all (c .said3 .ensures)
 
 pub judge-vertex-spec : {M : Type 1} → statement M
 judge-vertex-spec =
     tie.close
     (tie.spec
+    Inv-loop
+    μ-loop
+    Inv-loop2
+    μ-loop2
+    Inv-loop3
+    μ-loop3
     cast-h
-    refused-requires
-    returns
     mul-own
     element-copy-out-own
-    cast-v
-    refused-requires-2
-    returns-2
+    cast-job
     mul-job
-    element-copy-out-job
-    count-above-requires
-    cast-refused
-    refused-requires-3
-    returns-3
-    cast-d
-    mul-need
-    add-cells
-    mul-cells
-    cast-refused-2
-    refused-requires-4
-    returns-4
-    cast-refused-3
-    refused-requires-5
-    returns-5
-    walk-above-requires
+    array-copy-out-job
+    none-above-requires
+    loop-holds
+    mul-next
+    element-copy-out-next
+    add-path-count
+    path-count-requires
+    too-many-paths-requires
+    returns
+    with-paths-requires
+    add-j
+    loop-less
+    loop-again
+    area-rows-requires
+    enum-known-rows
+    returns-2
+    enum-told
+    loop2-holds
+    mul-next-2
+    element-copy-out-next-2
+    mul-from
+    element-copy-out-from
+    mul-paths
+    element-copy-out-paths
+    fill-stretch-requires
+    add-k
+    loop2-less
+    loop2-again
+    search-requires
+    enum-told-2
+    said-requires
+    enum-told-3
+    said-requires-2
+    enum-told-4
+    loop3-holds
+    mul-next-3
+    element-copy-out-next-3
+    mul-write-place
+    array-read-write-place
+    write-place-requires
+    add-i
+    loop3-less
+    loop3-again
+    said-requires-3
     same-length
+    returns-3
     same-length-2
-    returns-6)
+    returns-4
+    same-length-3
+    same-length-4
+    returns-5)

@@ -2,13 +2,10 @@ use Prim.Native.Nat.{_+_, _-_, _≤_, _<_}
 use mathlib.Core.Path.{_≡_, ap}
 use native.Mathlib.Omega.{arith}
 use lib.ListN.{length}
-use Rattle.lister.specs.Ways.{allWays}
-use Rattle.lister.proofs.Ways.{all-ways-length, all-ways-none}
+use Rattle.ways.specs.Ways.{allWays}
+use Rattle.ways.proofs.Ways.{all-ways-length, all-ways-none}
 use Rattle.lister.proofs.count.count_all.Statement.{statement}
 use Rattle.lister.proofs.count.count_all.Tie as tie
-use Rattle.lister.proofs.count.count_all.Reads as reads
-use Rattle.lister.proofs.count.count_all.Lts as lts
-use Rattle.lister.proofs.count.count_from.Reads as count-from-reads
 
 abbrev Inv-loop : tie.InvT-loop
 Inv-loop start to p n d cap sum₀ v₀ sum v = (v ≤ n) × (sum < cap) × (sum + length (allWays start to p d v n) ≡ length (allWays start to p d 0 n))

@@ -1,8 +1,11 @@
 use Prim.Native.Nat.{_-_}
+use mathlib.Core.List.{[]}
+use lib.ListN.{getD}
 use mathlib.Core.Path.{_∙_, ap}
 use native.Mathlib.Omega.{arith}
+use Rattle.ways.specs.Ways.{allWays, pathBy}
 use Rattle.lister.specs.Place.{pathRecord}
-use Rattle.lister.proofs.AllPlaces.{Passing, passing-none, passing-on, passing-found, passing-past}
+use Rattle.lister.proofs.AllPlaces.{CellsOf, Passing, passing-none, passing-on, passing-found, passing-past}
 use Rattle.lister.proofs.place.path_all.Statement.{statement}
 use Rattle.lister.proofs.place.path_all.Tie as tie
 
@@ -20,15 +23,22 @@ path-from-requires c κs =
     let f = (c .before .before .loop .inv) .fewer in
     ((c .before .before .before .pre .0), (omega arith, omega arith, omega arith, omega arith))
 
+-- the path that is found stands in the cells
+found : (c : tie.Then1 Inv-loop μ-loop)
+    → let s = c .before .before .before .before .before .args in let all = allWays (s .start .now) (s .to .now) (s .p .now) (s .d) 0 (s .n) in
+    CellsOf (pathBy (s .to .now) (getD all (s .i) [])) (c .before .path-from .last .1 .1 .1 .0) (c .before .path-from .result .n)
+found c =
+    let at-path = c .before in
+    let at-loop = at-path .before .before .before in
+    let asked = at-loop .before .pre in
+    passing-found (at-loop .loop .inv) (asked .0) (asked .1 .0) (asked .1 .1) (asked .1 .2) (at-path .before .before .loop-test .taken) (at-path .path-from .last .1 .1 .1 .0)
+    (at-path .path-from .result) (at-path .path-from .ensures) (c .if1 .taken)
+
 by-value-requires : tie.Need-by-value-requires Inv-loop μ-loop
-by-value-requires c κs =
-    let f = passing-found (c .before .before .before .before .before .loop .inv) (c .before .before .before .before .before .before .pre .0) ((c .before .before .before .before .before .before .pre .1) .0) ((c .before .before .before .before .before .before .pre .1) .1) ((c .before .before .before .before .before .before .pre .1) .2) (c .before .before .before .before .loop-test .taken) ((c .before .before .path-from .last) .1 .1 .1 .0) (c .before .before .path-from .result) (c .before .before .path-from .ensures) (c .before .if1 .taken) in
-    (f .fits, f .cells)
+by-value-requires c κs = (found (c .before) .fits, found (c .before) .cells)
 
 returns : tie.Need-returns Inv-loop μ-loop
-returns c =
-    (c .by-value .ensures)
-    ∙ ap pathRecord (passing-found (c .before .before .before .before .before .before .loop .inv) (c .before .before .before .before .before .before .before .pre .0) ((c .before .before .before .before .before .before .before .pre .1) .0) ((c .before .before .before .before .before .before .before .pre .1) .1) ((c .before .before .before .before .before .before .before .pre .1) .2) (c .before .before .before .before .before .loop-test .taken) ((c .before .before .before .path-from .last) .1 .1 .1 .0) (c .before .before .before .path-from .result) (c .before .before .before .path-from .ensures) (c .before .before .if1 .taken) .front)
+returns c = c .by-value .ensures ∙ ap pathRecord (found (c .before .before) .front)
 
 add-v : tie.Need-add-v Inv-loop μ-loop
 add-v c = omega arith
@@ -37,7 +47,9 @@ loop-less : tie.Need-loop-less Inv-loop μ-loop
 loop-less c = omega arith
 
 loop-again : tie.Need-loop-again Inv-loop μ-loop
-loop-again c = passing-on (c .before .before .before .before .loop .inv) (c .before .before .before .loop-test .taken) ((c .before .path-from .last) .1 .1 .1 .0) (c .before .path-from .result) (c .before .path-from .ensures) (c .if1 .left)
+loop-again c =
+    let at-path = c .before in
+    passing-on (at-path .before .before .before .loop .inv) (at-path .before .before .loop-test .taken) (at-path .path-from .last .1 .1 .1 .0) (at-path .path-from .result) (at-path .path-from .ensures) (c .if1 .left)
 
 by-value-requires-2 : tie.Need-by-value-requires-2 Inv-loop μ-loop
 by-value-requires-2 c κs = let f = passing-past (c .before .before .loop .inv) (c .before .loop-test .left) in (f .fits, f .cells)

@@ -1,11 +1,12 @@
 use Prim.Native.Nat.{_-_, _≤_}
 use lib.ListN.{length}
+use Rattle.meaning.specs.Bounds.{mostTasks}
 use borrow.Author.Needs.{needs}
 use Rattle.words.proofs.releases.say_releases.Statement.{statement}
 use Rattle.words.proofs.releases.say_releases.Tie as tie
 
 abbrev Inv-loop : tie.InvT-loop
-Inv-loop cells table loads₀ at₀ j₀ loads at j = (at ≤ length cells) × (j ≤ 8)
+Inv-loop cells table loads₀ at₀ j₀ loads at j = (at ≤ length cells) × (j ≤ mostTasks)
 
 abbrev μ-loop : tie.MeasureT-loop
 μ-loop cells table loads₀ at₀ j₀ loads at j = length cells - at
@@ -28,29 +29,23 @@ add-from c = search needs
 path-end-requires : tie.Need-path-end-requires Inv-loop μ-loop
 path-end-requires c κs = search needs
 
+mul-say-task : tie.Need-mul-say-task Inv-loop μ-loop
+mul-say-task c = search needs
+
+sub-say-task : tie.Need-sub-say-task Inv-loop μ-loop
+sub-say-task c = search needs
+
+part-say-task-start : tie.Need-part-say-task-start Inv-loop μ-loop
+part-say-task-start c = search needs
+
+part-say-task-end : tie.Need-part-say-task-end Inv-loop μ-loop
+part-say-task-end c = search needs
+
 say-task-requires : tie.Need-say-task-requires Inv-loop μ-loop
 say-task-requires c κs = search needs
 
-mul-say-path : tie.Need-mul-say-path Inv-loop μ-loop
-mul-say-path c = search needs
-
-sub-say-path : tie.Need-sub-say-path Inv-loop μ-loop
-sub-say-path c = search needs
-
-part-say-path-start : tie.Need-part-say-path-start Inv-loop μ-loop
-part-say-path-start c = search needs
-
-part-say-path-end : tie.Need-part-say-path-end Inv-loop μ-loop
-part-say-path-end c = search needs
-
-say-path-requires : tie.Need-say-path-requires Inv-loop μ-loop
-say-path-requires c κs = search needs
-
 sum-requires : tie.Need-sum-requires Inv-loop μ-loop
 sum-requires c κs = search needs
-
-end-line-requires : tie.Need-end-line-requires Inv-loop μ-loop
-end-line-requires c κs = search needs
 
 add-j : tie.Need-add-j Inv-loop μ-loop
 add-j c = search needs
@@ -76,14 +71,12 @@ say-releases-spec =
     element-copy-out-task
     add-from
     path-end-requires
+    mul-say-task
+    sub-say-task
+    part-say-task-start
+    part-say-task-end
     say-task-requires
-    mul-say-path
-    sub-say-path
-    part-say-path-start
-    part-say-path-end
-    say-path-requires
     sum-requires
-    end-line-requires
     add-j
     loop-less
     loop-again

@@ -1,0 +1,3 @@
+pub mod EdgeStarts
+pub mod TaskColumns
+pub mod Readiness

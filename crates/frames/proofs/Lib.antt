@@ -1,0 +1,6 @@
+pub mod LineRead
+pub mod Expected
+pub mod VertexRead
+pub mod EdgeRead
+pub mod TaskOrEnd
+pub mod Answers

@@ -1,0 +1,119 @@
+-- Each line by the frame that must stand there: only where that fails is the line looked through for the reason. Assumes nothing.
+use Prim.Native.Nat.{ℕ, _+_}
+use mathlib.Core.Bool.{Bool, false}
+use mathlib.Core.List.{List}
+use lib.ListN.{length, getD}
+use lib.Dec.{leb, eqb}
+use Rattle.meaning.specs.Lists.{pick}
+use Rattle.meaning.specs.Bounds.{mostTasks}
+use Rattle.meaning.specs.Text.{lineFeed}
+use Rattle.kinds.specs.declared.Refusal.{Refusal}
+use Rattle.kinds.specs.declared.Refusal.the-variants.{BadLine, WrongFrame, OutOfBounds, DeadlineOverSeparation, EdgeNotAfter, NoEnd}
+use Rattle.table.specs.declared.Vertex.{Vertex}
+use Rattle.table.specs.Record.{vertexCells, edgeCells, noVertex}
+use Rattle.frames.specs.declared.VertexLine.{VertexLine}
+use Rattle.frames.specs.declared.VertexLine.the-variants.{VertexTaken, VertexRefused}
+use Rattle.frames.specs.declared.EdgeLine.{EdgeLine}
+use Rattle.frames.specs.declared.EdgeLine.the-variants.{EdgeTaken, EdgeRefused}
+use Rattle.frames.specs.declared.TaskOrEndLine.{TaskOrEndLine}
+use Rattle.frames.specs.declared.TaskOrEndLine.the-variants.{TaskTaken, EndTaken, FrameRefused}
+use Rattle.rules.specs.Rules.{taskIn, vertexIn, edgeIn, edgeSpaced, edgeAfter}
+use Rattle.digits.specs.Digits.{pairAt, wordAt, frameAt, digitCount}
+
+-- ---- the digits of each frame's line, and the bytes of the line
+
+abbrev pub taskDigits : ℕ
+taskDigits = 6
+
+abbrev pub taskBytes : ℕ
+taskBytes = taskDigits + 1
+
+-- a vertex's, and an edge's
+abbrev pub partDigits : ℕ
+partDigits = 10
+
+abbrev pub partBytes : ℕ
+partBytes = partDigits + 1
+
+abbrev pub endDigits : ℕ
+endDigits = 2
+
+abbrev pub endBytes : ℕ
+endBytes = endDigits + 1
+
+-- ---- what is asked of a line
+
+-- how the first line of t is refused: 6, 1, 2 where it has not n digits, else w
+unfoldable pub faultOf : List ℕ → ℕ → Refusal → Refusal
+faultOf t n w =
+    pick (eqb (length t) 0) NoEnd
+    (pick (eqb (digitCount 0 (frameAt t)) 0) BadLine
+    (pick (eqb (digitCount 0 (frameAt t)) n) w WrongFrame))
+
+-- t starts with the digits 0 and k (as bytes), and has a line feed behind n bytes
+unfoldable pub startsWith : List ℕ → ℕ → ℕ → Bool
+startsWith t k n =
+    pick (leb (length t) n) false
+    (pick (eqb (getD t 0 0) 48)
+    (pick (eqb (getD t 1 0) k) (eqb (getD t n 0) lineFeed) false) false)
+
+-- ---- a vertex's line
+
+abbrev pub vertexE : List ℕ → ℕ
+vertexE t = wordAt t 2
+
+abbrev pub vertexD : List ℕ → ℕ
+vertexD t = wordAt t 6
+
+unfoldable pub vertexLine : List ℕ → VertexLine
+vertexLine t =
+    pick (startsWith t 50 partDigits)
+    (pick (vertexIn (vertexE t) (vertexD t))
+    (VertexTaken (vertexCells (vertexE t) (vertexD t)))
+    (VertexRefused (faultOf t partDigits OutOfBounds)))
+    (VertexRefused (faultOf t partDigits WrongFrame))
+
+-- ---- an edge's line
+
+abbrev pub edgeFrom : List ℕ → ℕ
+edgeFrom t = pairAt t 2
+
+abbrev pub edgeTo : List ℕ → ℕ
+edgeTo t = pairAt t 4
+
+abbrev pub edgeP : List ℕ → ℕ
+edgeP t = wordAt t 6
+
+-- in a task of n vertices, vs, where `least` is the first place after the edge before
+unfoldable pub edgeLine : ℕ → List Vertex → ℕ → List ℕ → EdgeLine
+edgeLine n vs least t =
+    pick (startsWith t 51 partDigits)
+    (pick (edgeIn n (edgeFrom t) (edgeTo t) (edgeP t))
+    (pick (edgeSpaced (getD vs (edgeFrom t) noVertex .d .0) (edgeP t))
+    (pick (edgeAfter least (edgeFrom t) (edgeTo t))
+    (EdgeTaken (edgeCells (edgeFrom t) (edgeTo t) (edgeP t)))
+    (EdgeRefused EdgeNotAfter))
+    (EdgeRefused DeadlineOverSeparation))
+    (EdgeRefused (faultOf t partDigits OutOfBounds)))
+    (EdgeRefused (faultOf t partDigits WrongFrame))
+
+-- ---- the line after k whole tasks
+
+unfoldable pub endLine : ℕ → List ℕ → TaskOrEndLine
+endLine k t =
+    pick (startsWith t 48 endDigits)
+    (pick (eqb k 0) (FrameRefused WrongFrame) EndTaken)
+    (FrameRefused (faultOf t endDigits WrongFrame))
+
+abbrev pub taskVertices : List ℕ → ℕ
+taskVertices t = pairAt t 2
+
+abbrev pub taskEdges : List ℕ → ℕ
+taskEdges t = pairAt t 4
+
+unfoldable pub taskOrEndLine : ℕ → List ℕ → TaskOrEndLine
+taskOrEndLine k t =
+    pick (startsWith t 49 taskDigits)
+    (pick (leb mostTasks k) (FrameRefused (faultOf t taskDigits WrongFrame))
+    (pick (taskIn (taskVertices t) (taskEdges t)) (TaskTaken (taskVertices t) (taskEdges t)) (FrameRefused (faultOf t taskDigits OutOfBounds))))
+    (endLine k t)

@@ -1,0 +1,3 @@
+pub mod PutRows
+pub mod AllRows
+pub mod FollowingRows

@@ -1,0 +1,82 @@
+use native.Mathlib.Omega.{arith}
+use Prim.Native.Nat.{_≤_, _-_}
+use Rattle.overload.proofs.Ticks.{Summed, summed-none, summed-more, summed-all}
+use Rattle.overload.proofs.loads_at.Statement.{statement}
+use Rattle.overload.proofs.loads_at.Tie as tie
+
+abbrev Inv-loop : tie.InvT-loop
+Inv-loop work base h d t sum₀ j₀ sum j = (j ≤ h) × Summed work base t j sum
+
+abbrev μ-loop : tie.MeasureT-loop
+μ-loop work base h d t sum₀ j₀ sum j = h - j
+
+loop-holds : tie.Need-loop-holds Inv-loop μ-loop
+loop-holds c = (omega arith, summed-none)
+
+mul-i : tie.Need-mul-i Inv-loop μ-loop
+mul-i c = omega arith
+
+element-copy-out-i : tie.Need-element-copy-out-i Inv-loop μ-loop
+element-copy-out-i c = omega arith
+
+add-i : tie.Need-add-i Inv-loop μ-loop
+add-i c =
+    let l = c .before .before in
+    let s = l .before in
+    let i = s .pre .1 .within (l .loop .j) (omega arith) in
+    omega arith
+
+mul-sum : tie.Need-mul-sum Inv-loop μ-loop
+mul-sum c =
+    let l = c .before .before in
+    let s = l .before in
+    let i = s .pre .1 .within (l .loop .j) (omega arith) in
+    omega arith
+
+shared-slice-read-sum : tie.Need-shared-slice-read-sum Inv-loop μ-loop
+shared-slice-read-sum c =
+    let l = c .before .before .before in
+    let s = l .before in
+    let i = s .pre .1 .within (l .loop .j) (omega arith) in
+    omega arith
+
+add-sum : tie.Need-add-sum Inv-loop μ-loop
+add-sum c =
+    let l = c .before .before .before in
+    let s = l .before in
+    let w = s .pre .1 .cells (l .loop .j) (omega arith) (s .args .t) (s .pre .0) in
+    omega arith
+
+add-j : tie.Need-add-j Inv-loop μ-loop
+add-j c = omega arith
+
+loop-less : tie.Need-loop-less Inv-loop μ-loop
+loop-less c = omega arith
+
+loop-again : tie.Need-loop-again Inv-loop μ-loop
+loop-again c =
+    let l = c .before .before .before in
+    let s = l .before in
+    let w = s .pre .1 .cells (l .loop .j) (omega arith) (s .args .t) (s .pre .0) in
+    (omega arith, summed-more (l .loop .inv .1) (omega arith) w)
+
+returns : tie.Need-returns Inv-loop μ-loop
+returns c = let l = c .before in (summed-all (l .loop .inv .1) (l .before .args .h) (omega arith), omega arith)
+
+pub loads-at-spec : {M : Type 1} → statement M
+loads-at-spec =
+    tie.close
+    (tie.spec
+    Inv-loop
+    μ-loop
+    loop-holds
+    mul-i
+    element-copy-out-i
+    add-i
+    mul-sum
+    shared-slice-read-sum
+    add-sum
+    add-j
+    loop-less
+    loop-again
+    returns)

@@ -1,0 +1,19 @@
+use Rattle.rules.specs.Rules.{taskIn}
+use borrow.Author.Tests.{le-leb, lt-leb}
+use Rattle.rules.proofs.task_in.Statement.{statement}
+use Rattle.rules.proofs.task_in.Tie as tie
+
+returns : tie.Need-returns
+unfolding taskIn
+returns c = simp (lt-leb _ _ (c .if1 .taken))
+
+returns-2 : tie.Need-returns-2
+unfolding taskIn
+returns-2 c = simp (le-leb _ _ (c .before .if1 .left), lt-leb _ _ (c .if2 .taken))
+
+returns-3 : tie.Need-returns-3
+unfolding taskIn
+returns-3 c = simp (le-leb _ _ (c .before .if1 .left), le-leb _ _ (c .if2 .left))
+
+pub task-in-spec : {M : Type 1} → statement M
+task-in-spec = tie.close (tie.spec returns returns-2 returns-3)
