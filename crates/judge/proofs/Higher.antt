@@ -78,12 +78,15 @@ module _ (t : Table) (k : Held t) (i : ℕ) (l : i < t .n) (d : ℕ) where
     crowds h = omega (arith, count-of z j m)
 
     module _ (h : r ≤ mostPaths) where
-      count-is : r ≡ getD ns j 0
-      count-is = omega (arith, count-of z j m)
+      paths-counted : r ≡ getD ns j 0
+      paths-counted = omega (arith, count-of z j m)
 
       pub count-pos : 0 < r
       count-pos =
-          let s : 0 < length (pathsOf (taskOf (getD (t .tasks) j z)) d) = subst (λ (x : Meant.Task). 0 < length (pathsOf x d)) (sym (held-is t k z j (omega arith))) (paths-some _ (held-sound t k j (omega arith)) d) in
+          let some = paths-some _ (held-sound t k j (omega arith)) d in
+          let s : 0 < length (pathsOf (taskOf (getD (t .tasks) j z)) d) = (
+          subst (λ (x : Meant.Task). 0 < length (pathsOf x d)) (sym (held-is t k z j (omega arith))) some
+          ) in
           omega arith
 
       pub with-asks : Counted j above × (j < mostHigher)
@@ -97,7 +100,7 @@ module _ (t : Table) (k : Held t) (i : ℕ) (l : i < t .n) (d : ℕ) where
       pub counted-more : {next : Above} → next ≡ withPaths above j r d → CountedTo ks i d next (j + 1)
       counted-more e′ =
           let front = front-length j (c .low) in
-          let next : take j ns ++ r ∷ [] ≡ take (j + 1) ns = ap (λ (n : ℕ). take j ns ++ n ∷ []) count-is ∙ sym (rw (add-one j) (take-suc ns j 0 (omega (arith, counts-many)))) in
+          let next : take j ns ++ r ∷ [] ≡ take (j + 1) ns = ap (λ (n : ℕ). take j ns ++ n ∷ []) paths-counted ∙ sym (rw (add-one j) (take-suc ns j 0 (omega (arith, counts-many)))) in
           record {
             low = omega arith;
             seven = seven;
@@ -107,7 +110,7 @@ module _ (t : Table) (k : Held t) (i : ℕ) (l : i < t .n) (d : ℕ) where
                 ∙ ap (λ (n : ℕ). withPaths (aboveOf d (take j ns)) n r d) (sym front)
                 ∙ more-is d (take j ns) r (omega (arith, front, seven))
                 ∙ ap (aboveOf d) next;
-            few = λ n o. elim (ℕ-discrete n j) [ yes q ↦ rw (q, ← count-is) h | no q ↦ c .few n (omega arith) ];
+            few = λ n o. elim (ℕ-discrete n j) [ yes q ↦ rw (q, ← paths-counted) h | no q ↦ c .few n (omega arith) ];
           }
 
   -- ---- all are counted

@@ -49,7 +49,9 @@ module _ (t : Table) (k : Held t) (h : ℕ) (l : h < t .n) (d : ℕ) (o : 0 < d)
     pub place-asks : getD ps j 0 ≤ mostCounted → HeldTask (getD (t .tasks) j z) × (0 < d) × (d ≤ largestD) × (getD ps j 0 ≤ mostCounted) × (at + (1 + d) ≤ length now)
     place-asks q = (held-one t k z j (omega arith), o, u, q, omega (arith, w .short, w .gathered .same, row-fits j m, more))
 
-    pub miss-more : {after : List ℕ} {next : ℕ} → Wrote (pathCell (pathAt (taskOf (getD (t .tasks) j z)) d (getD ps j 0))) now at after next × (next ≤ at + (1 + d)) → MissTo ks h d ps before after next (j + 1)
+    pub miss-more : {after : List ℕ} {next : ℕ}
+        → Wrote (pathCell (pathAt (taskOf (getD (t .tasks) j z)) d (getD ps j 0))) now at after next × (next ≤ at + (1 + d))
+        → MissTo ks h d ps before after next (j + 1)
     miss-more {after} {next} (v, near) =
         let same : pathAt (taskOf (getD (t .tasks) j z)) d (getD ps j 0) ≡ getD (pathsAt ks d ps) j [] = (
         ap (λ (x : Meant.Task). pathAt x d (getD ps j 0)) (task-is t k h l d z j m)

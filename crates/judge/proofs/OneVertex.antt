@@ -49,11 +49,13 @@ use Rattle.search.proofs.Joining.{walkable}
 use Rattle.search.proofs.Ending.{places-are, places-small, walked-is}
 use Rattle.judge.specs.Judged.{Answered}
 use Rattle.judge.specs.Whole.{There}
-use Rattle.judge.proofs.Higher.{many, seven, CountedTo, counted-none, crowds, count-pos, with-asks, counted-more, all-counted, all-few, FilledTo, filled-none, fill-asks, filled-more, filled-all}
+use Rattle.judge.proofs.Higher.{many, seven, CountedTo, counted-none, crowds, count-pos, with-asks, counted-more, all-counted, all-few}
+use Rattle.judge.proofs.Higher.{FilledTo, filled-none, fill-asks, filled-more, filled-all}
 use Rattle.judge.proofs.Missing.{MissTo, miss-none, place-asks, miss-more, miss-all}
 use Rattle.judge.proofs.Sheet.{none-crowded, first-crowded, need-rows, no-task, no-vertex, at-9, at-10, at-11, at-walk}
 
-answer-refused : (J : Said.Verdict) (ρ : Refusal) (place need : ℕ) (work wit : List ℕ) {x : Kinds.Verdict} → x ≡ Kind.Refused (refusedAt ρ place) → J ≡ Said.refused (refusalNumber ρ) place
+answer-refused : (J : Said.Verdict) (ρ : Refusal) (place need : ℕ) (work wit : List ℕ) {x : Kinds.Verdict}
+    → x ≡ Kind.Refused (refusedAt ρ place) → J ≡ Said.refused (refusalNumber ρ) place
     → Answered J need work wit x work wit
 answer-refused J ρ place need work wit {x} e q =
     subst (λ (y : Kinds.Verdict). Answered J need work wit y work wit) (sym e)
@@ -221,7 +223,8 @@ module _ (asked : Asked) where
     cells-are = ap (λ (n : ℕ). i * (1 + n)) d-is
 
     -- rows 10 and 11
-    pub answer-areas : {x : AreaRows} → x ≡ areaRows (a .rows * d) (i * (1 + d)) (length work) (length wit) → {at : RefusedAt} → x ≡ Refused at → Answered J need work wit (Kind.Refused at) work wit
+    pub answer-areas : {x : AreaRows} → x ≡ areaRows (a .rows * d) (i * (1 + d)) (length work) (length wit)
+        → {at : RefusedAt} → x ≡ Refused at → Answered J need work wit (Kind.Refused at) work wit
     answer-areas p {at} q′ = by (decLt (length work) (a .rows * d)) (decLt (length wit) (i * (1 + d)))
       where
         q : areaRows (a .rows * d) (i * (1 + d)) (length work) (length wit) ≡ Refused at
@@ -366,7 +369,8 @@ module _ (asked : Asked) where
 
           module _ (Z : List ℕ) (clear : Z ≡ zeroed (a .rows * d) W) where
             -- the answer x, where the walk ended so and the witness area became wit′
-            ended : (end : Ending) (x : Kinds.Verdict) (wit′ : List ℕ) → J ≡ meantBy end ws → verdictNumbers x ≡ numbers (meantBy end ws) → zeroed need work ≡ workAfter (meantBy end ws) need work
+            ended : (end : Ending) (x : Kinds.Verdict) (wit′ : List ℕ) → J ≡ meantBy end ws → verdictNumbers x ≡ numbers (meantBy end ws)
+                → zeroed need work ≡ workAfter (meantBy end ws) need work
                 → wit′ ≡ witnessAfter (meantBy end ws) wit → Answered J need work wit x Z wit′
             ended end x wit′ q n c′ p = subst (λ y. Answered y need work wit x Z wit′) (sym q) (record { verdict = n; cells = clear ∙ cleared ∙ c′; paths = p })
 
@@ -378,9 +382,11 @@ module _ (asked : Asked) where
             answer-unfinished n q {x} e′ =
                 ended (Unfinished n) x wit (judged-is ∙ ap (λ (y : Ending). meantBy y ws) q) (ap verdictNumbers (e′ ∙ ap (λ (y : Ending). saidOf y 0) q)) refl refl
 
-            pub answer-misses : (n : ℕ) → r .ending ≡ Misses n → (m : ℕ) (wit′ : List ℕ) → Wrote (cellsOf ws) wit 0 wit′ m × (m ≤ i * (1 + d)) → {x : Kinds.Verdict} → x ≡ saidOf (r .ending) m
+            pub answer-misses : (n : ℕ) → r .ending ≡ Misses n → (m : ℕ) (wit′ : List ℕ) → Wrote (cellsOf ws) wit 0 wit′ m × (m ≤ i * (1 + d))
+                → {x : Kinds.Verdict} → x ≡ saidOf (r .ending) m
                 → Answered J need work wit x Z wit′
             answer-misses n q m wit′ (w, short) {x} e′ =
                 let long : m ≡ length (cellsOf ws) = w .end ∙ omega arith in
-                ended (Misses n) x wit′ (judged-is ∙ ap (λ (y : Ending). meantBy y ws) q) (ap verdictNumbers (e′ ∙ ap (λ (y : Ending). saidOf y m) q) ∙ ap (λ (y : ℕ). 1 ∷ n ∷ y ∷ []) long) refl
+                ended (Misses n) x wit′ (judged-is ∙ ap (λ (y : Ending). meantBy y ws) q)
+                (ap verdictNumbers (e′ ∙ ap (λ (y : Ending). saidOf y m) q) ∙ ap (λ (y : ℕ). 1 ∷ n ∷ y ∷ []) long) refl
                 (w .cells ∙ front-set (cellsOf ws) wit (omega (arith, rooms .1)))

@@ -15,7 +15,7 @@ use Rattle.meaning.specs.Table as Meant
 use Rattle.meaning.specs.Table.{noTask, taskAt, higher}
 use Rattle.meaning.specs.Paths.{pathsOf}
 use Rattle.meaning.specs.Verdict.{Verdict, refused, walkedAt, deadline}
-use Rattle.meaning.specs.Areas.{rowsOf, workNeed, witnessNeed}
+use Rattle.meaning.specs.Areas.{rowsFor, rowsOf, workNeed, witnessNeed}
 use Rattle.meaning.specs.Judge.{Row, crowded, row8, row9, row10, row11, firstRow, unlessRefused, judged}
 use Rattle.meaning.proofs.Lists.{getD-mapped, and-false}
 use Rattle.meaning.proofs.Refusals.{row-none, row-some}
@@ -74,7 +74,7 @@ module _ (ts : Meant.Table) (i d : ℕ) (w : i ≤ length ts) where
   unfolding rowsIn
   need-rows rows e = mul-comm rows d ∙ ap (λ (n : ℕ). d * n) (e ∙ fused (higher ts i))
     where
-      fused : (ks : List Meant.Task) → sum (map (λ (n : ℕ). 2 * n - 1) (pathCounts ks d)) ≡ sum (map (rowsOf d) ks)
+      fused : (ks : List Meant.Task) → sum (map rowsFor (pathCounts ks d)) ≡ sum (map (rowsOf d) ks)
       fused [] = refl
       fused (x ∷ ks) = ap (λ (n : ℕ). rowsOf d x + n) (fused ks)
 

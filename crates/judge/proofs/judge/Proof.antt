@@ -36,7 +36,8 @@ returns c =
     let h = leb-true _ _ (sym (sought .no-such .ensures) ∙ asked .if1 .taken) in
     table-answers (entry .args .text .now) (entry .args .task .0) (entry .args .vertex .0) (entry .args .budget) (entry .args .work .now)
     (entry .args .witness .now) (was .read .result .table) _ _ _ table
-    (answer-8 (was .read .result .table) (read-held table) (entry .args .task .0) (entry .args .vertex .0) (entry .args .budget) (entry .args .work .now) (entry .args .witness .now) h (c .no-such-vertex .ensures))
+    (answer-8 (was .read .result .table) (read-held table) (entry .args .task .0) (entry .args .vertex .0) (entry .args .budget)
+    (entry .args .work .now) (entry .args .witness .now) h (c .no-such-vertex .ensures))
 
 cast-h : tie.Need-cast-h
 cast-h c = search needs
@@ -75,7 +76,8 @@ returns-2 c =
     let h = leb-true _ _ (sym (sought2 .no-such2 .ensures) ∙ asked2 .if2 .taken) in
     table-answers (entry .args .text .now) (entry .args .task .0) (entry .args .vertex .0) (entry .args .budget) (entry .args .work .now)
     (entry .args .witness .now) (was .read .result .table) _ _ _ table
-    (answer-8-vertex (was .read .result .table) (read-held table) (entry .args .task .0) (entry .args .vertex .0) (entry .args .budget) (entry .args .work .now) (entry .args .witness .now) l h (c .no-such-vertex2 .ensures))
+    (answer-8-vertex (was .read .result .table) (read-held table) (entry .args .task .0) (entry .args .vertex .0) (entry .args .budget)
+    (entry .args .work .now) (entry .args .witness .now) l h (c .no-such-vertex2 .ensures))
 
 judge-vertex-requires : tie.Need-judge-vertex-requires
 judge-vertex-requires c κs =
@@ -88,8 +90,11 @@ judge-vertex-requires c κs =
     let entry = was .before .before .before .before in
     let table = table-read (entry .args .text .now) (was .read .result) (was .read .ensures) (told .enum-told .given .1) in
     let l : entry .args .task .0 < was .read .result .table .n = leb-false (was .read .result .table .n) (entry .args .task .0) (sym (sought .no-such .ensures) ∙ asked .if1 .left) in
-    let m = leb-false _ _ (sym (sought2 .no-such2 .ensures) ∙ asked2 .if2 .left) in
-    (read-held table, is-there (was .read .result .table) (read-held table) (entry .args .task .0) (entry .args .vertex .0) (entry .args .budget) (entry .args .work .now) (entry .args .witness .now) l m)
+    let m = leb-false _ _ (sym (sought2 .no-such2 .ensures) ∙ asked2 .if2 .left) in (
+      read-held table,
+      is-there (was .read .result .table) (read-held table) (entry .args .task .0) (entry .args .vertex .0)
+          (entry .args .budget) (entry .args .work .now) (entry .args .witness .now) l m,
+    )
 
 same-length : tie.Need-same-length
 same-length c = search needs
