@@ -102,12 +102,12 @@ uint64_t tectavirio_judge_table(const uint8_t *text, size_t text_bytes, uint32_t
 
 /* What a whole table's number holds: the text's refusal, 0 for a readable text, and its line, where there is a refusal; the four counts, where there is
  * none. */
-static inline unsigned tectavirio_judged_refusal(uint64_t judged) { return (unsigned)(judged >> 32); }
-static inline unsigned tectavirio_judged_line(uint64_t judged) { return (unsigned)(judged & 0xffffffff); }
-static inline unsigned tectavirio_judged_meeting(uint64_t judged) { return (unsigned)(judged >> 24 & 0xff); }
-static inline unsigned tectavirio_judged_missing(uint64_t judged) { return (unsigned)(judged >> 16 & 0xff); }
-static inline unsigned tectavirio_judged_unfinishing(uint64_t judged) { return (unsigned)(judged >> 8 & 0xff); }
-static inline unsigned tectavirio_judged_refusing(uint64_t judged) { return (unsigned)(judged & 0xff); }
+static inline unsigned tectavirio_judged_refusal(uint64_t judged) { return (unsigned)(judged / 4294967296); }
+static inline unsigned tectavirio_judged_line(uint64_t judged) { return (unsigned)(judged % 4294967296); }
+static inline unsigned tectavirio_judged_meeting(uint64_t judged) { return (unsigned)(judged / 16777216 % 256); }
+static inline unsigned tectavirio_judged_missing(uint64_t judged) { return (unsigned)(judged / 65536 % 256); }
+static inline unsigned tectavirio_judged_unfinishing(uint64_t judged) { return (unsigned)(judged / 256 % 256); }
+static inline unsigned tectavirio_judged_refusing(uint64_t judged) { return (unsigned)(judged % 256); }
 
 /* Writes the desk program's output for an input, its frames as lines of hexadecimal, from the front of `out`, and gives its length in bytes. All else in
  * `out` is unchanged. An `out` shorter than TECTAVIRIO_LONGEST_OUTPUT is left as it is, and the length is 0. */
