@@ -47,7 +47,8 @@ claims t = (
 )
 
 abbrev Inv-loop : rows-from-lts.InvT-loop
-Inv-loop part₀ d e start to p row₀ below i u at total end k₀ n₀ part row k n = Going e start to p (d .0) u (at .0) (total - getD e u 0) i end part₀ (loadsIn row₀) part (loadsIn row) k n
+Inv-loop part₀ d e start to p row₀ below i u at total end k₀ n₀ part row k n =
+    Going e start to p (d .0) u (at .0) (total - getD e u 0) i end part₀ (loadsIn row₀) part (loadsIn row) k n
 
 abbrev μ-loop : rows-from-lts.MeasureT-loop
 μ-loop part₀ d e start to p row₀ below i u at total end k₀ n₀ part row k n = end - k
@@ -65,7 +66,9 @@ rows-from-mul-execution : (t : ℕ) → rows-from-lts.Need-mul-execution (claims
 rows-from-mul-execution t c = omega (arith, c .before .before .follow-row .ensures .vertex)
 
 rows-from-element-copy-out-execution : (t : ℕ) → rows-from-lts.Need-element-copy-out-execution (claims t) (rows-from-at t) rows-from.Post Inv-loop μ-loop
-rows-from-element-copy-out-execution t c = omega (arith, c .before .before .follow-row .ensures .vertex)
+rows-from-element-copy-out-execution t c =
+    let at-follow-row = c .before .before in
+    omega (arith, at-follow-row .follow-row .ensures .vertex)
 
 rows-from-execution-requires : (t : ℕ) → rows-from-lts.Need-execution-requires (claims t) (rows-from-at t) rows-from.Post Inv-loop μ-loop
 rows-from-execution-requires t c κs = search needs
@@ -93,11 +96,16 @@ rows-from-index-requires-2 t c κs = search needs
 
 rows-from-loop-holds : (t : ℕ) → rows-from-lts.Need-loop-holds (claims t) (rows-from-at t) rows-from.Post Inv-loop μ-loop
 rows-from-loop-holds t c =
-    let s = c .before .before .before .before .before .before .before .before .before .before .before .before in
-    let led = c .before .before .before .before .before .before .before .before .before .follow-row in
+    let at-index = c .before .before in
+    let at-execution = at-index .before .before .before in
+    let at-follow-row = at-execution .before .before .before .before in
+    let s = at-follow-row .before .before .before in
+    let led = at-follow-row .follow-row in
     let u = led .result in
-    going-none (s .pre .1 .0) (s .args .d .0) (u .v .0) (u .span .0) (u .below + c .before .before .before .before .before .execution .result - getD (s .args .e .now) (u .v .0) 0) (s .args .i) (c .before .before .index .result)
-    (c .index2 .result) (s .args .part .now) (loadsIn (led .last .0)) (led .ensures .vertex) (led .ensures .room) (led .ensures .cells) (c .before .before .index .ensures) (c .index2 .ensures)
+    going-none (s .pre .1 .0) (s .args .d .0) (u .v .0) (u .span .0) (u .below + at-execution .execution .result - getD (s .args .e .now) (u .v .0) 0)
+    (s .args .i) (at-index .index .result)
+    (c .index2 .result) (s .args .part .now) (loadsIn (led .last .0)) (led .ensures .vertex) (led .ensures .room) (led .ensures .cells)
+    (at-index .index .ensures) (c .index2 .ensures)
 
 rows-from-mul-if1 : (t : ℕ) → rows-from-lts.Need-mul-if1 (claims t) (rows-from-at t) rows-from.Post Inv-loop μ-loop
 rows-from-mul-if1 t c = omega (arith, c .before .loop .inv .turn .few)
@@ -115,89 +123,145 @@ rows-from-loop-less : (t : ℕ) → rows-from-lts.Need-loop-less (claims t) (row
 rows-from-loop-less t c = omega arith
 
 rows-from-loop-again : (t : ℕ) → rows-from-lts.Need-loop-again (claims t) (rows-from-at t) rows-from.Post Inv-loop μ-loop
-rows-from-loop-again t c = going-skip (c .before .before .before .before .before .before .loop .inv) (c .before .before .before .before .before .loop-test .taken) (omega arith)
+rows-from-loop-again t c =
+    let at-loop-test = c .before .before .before .before .before in
+    let at-loop = at-loop-test .before in
+    going-skip (at-loop .loop .inv) (at-loop-test .loop-test .taken) (omega arith)
 
 rows-from-add-t37 : (t : ℕ) → rows-from-lts.Need-add-t37 (claims t) (rows-from-at t) rows-from.Post Inv-loop μ-loop
 rows-from-add-t37 t c = let r = c .before .before .before .before .before .before .before .before .loop .inv .some in omega arith
 
 rows-from-fill-run-requires : (t : ℕ) → rows-from-lts.Need-fill-run-requires (claims t) (rows-from-at t) rows-from.Post Inv-loop μ-loop
 rows-from-fill-run-requires t c κs =
-    let r = c .before .before .before .before .before .before .before .before .before .loop .inv .some in
-    let l = c .before .before .before .before .before .before .before .before .before .before .before .before .before .before .before .before .before .before .before .before .before .before .pre .1 .1 .0 .2 in
-    (omega arith, omega (arith, c .before .before .before .if1 .left))
+    let at-if1 = c .before .before .before in
+    let at-loop = at-if1 .before .before .before .before .before .before in
+    let at-pre = at-loop .before .before .before .before .before .before .before .before .before .before .before .before .before in
+    let r = at-loop .loop .inv .some in
+    let l = at-pre .pre .1 .1 .0 .2 in
+    (omega arith, omega (arith, at-if1 .if1 .left))
 
 rows-from-element-copy-out-t42 : (t : ℕ) → rows-from-lts.Need-element-copy-out-t42 (claims t) (rows-from-at t) rows-from.Post Inv-loop μ-loop
-rows-from-element-copy-out-t42 t c = omega (arith, c .before .before .before .before .before .before .before .before .before .before .loop .inv .turn .few)
+rows-from-element-copy-out-t42 t c =
+    let at-loop = c .before .before .before .before .before .before .before .before .before .before in
+    omega (arith, at-loop .loop .inv .turn .few)
 
 rows-from-rows-from-requires : (t : ℕ) → rows-from-lts.Need-rows-from-requires (claims t) (rows-from-at t) rows-from.Post Inv-loop μ-loop
 rows-from-rows-from-requires t c κs =
-    let m = c .before .before .before .before .before .before .before .before .before .before .before .before .before .before .before .before .before .before .before .before .before .before .before .before .before .before .pre .0 in
-    let asked = c .before .before .before .before .before .before .before .before .before .before .before .before .before .before .before .before .before .before .before .before .before .before .before .before .before .before .pre .1 in
-    let led = c .before .before .before .before .before .before .before .before .before .before .before .before .before .before .before .before .before .before .before .before .before .before .before .follow-row .ensures in
-    let w = edge-on (asked .0) (c .before .before .before .before .before .before .before .before .before .before .before .before .before .loop .inv .turn) (c .before .before .before .before .before .before .before .before .before .before .before .before .loop-test .taken) in
-    let x = c .before .before .before .before .before .before .before .before .before .before .before .before .before .before .before .before .before .before .before .execution .ensures in
+    let at-fill-run = c .before .before .before in
+    let at-if1 = at-fill-run .before .before .before .before in
+    let at-loop-test = at-if1 .before .before .before .before .before in
+    let at-loop = at-loop-test .before in
+    let at-execution = at-loop .before .before .before .before .before .before in
+    let at-follow-row = at-execution .before .before .before .before in
+    let at-pre = at-follow-row .before .before .before in
+    let m = at-pre .pre .0 in
+    let asked = at-pre .pre .1 in
+    let led = at-follow-row .follow-row .ensures in
+    let w = edge-on (asked .0) (at-loop .loop .inv .turn) (at-loop-test .loop-test .taken) in
+    let x = at-execution .execution .ensures in
     let o = led .onward in
     let l = led .light in
     let r = led .room in
-    let room = going-room (c .before .before .before .before .before .before .before .before .before .before .before .before .before .loop .inv) (asked .0) (c .before .before .before .before .before .before .before .before .before .before .before .before .loop-test .taken) (omega arith) led (asked .1 .1) in
-    (omega arith, (asked .0, ((omega arith, omega arith, asked .1 .0 .2, omega arith, run-length (c .before .before .before .fill-run .ensures) (c .before .before .before .before .before .before .before .before .before .before .before .before .before .loop .inv .cells)), room)))
+    let over = at-if1 .if1 .left in
+    let room = going-room (at-loop .loop .inv) (asked .0) (at-loop-test .loop-test .taken) (omega arith) led (asked .1 .1) in
+    (omega arith, (asked .0, ((omega arith, omega arith, asked .1 .0 .2, omega arith, run-length (at-fill-run .fill-run .ensures) (at-loop .loop .inv .cells)), room)))
 
 rows-from-add-k-2 : (t : ℕ) → rows-from-lts.Need-add-k-2 (claims t) (rows-from-at t) rows-from.Post Inv-loop μ-loop
-rows-from-add-k-2 t c = omega (arith, c .before .before .before .before .before .before .before .before .before .before .before .before .before .before .before .before .loop .inv .turn .few)
+rows-from-add-k-2 t c =
+    let at-loop = c .before .before .before .before .before .before .before .before .before .before .before .before .before .before .before .before in
+    omega (arith, at-loop .loop .inv .turn .few)
 
 rows-from-loop-less-2 : (t : ℕ) → rows-from-lts.Need-loop-less-2 (claims t) (rows-from-at t) rows-from.Post Inv-loop μ-loop
 rows-from-loop-less-2 t c = omega arith
 
 rows-from-loop-again-2 : (t : ℕ) → rows-from-lts.Need-loop-again-2 (claims t) (rows-from-at t) rows-from.Post Inv-loop μ-loop
 rows-from-loop-again-2 t c =
-    let at-rows = c .before .before .rows-from in
-    let x = c .before .before .before .before .before .before .before .before .before .before .before .before .before .before .before .before .before .before .before .before .before .before .execution in
+    let at-rows-from = c .before .before in
+    let at-fill-run = at-rows-from .before .before .before .before in
+    let at-if1 = at-fill-run .before .before .before .before in
+    let at-loop-test = at-if1 .before .before .before .before .before in
+    let at-loop = at-loop-test .before in
+    let at-execution = at-loop .before .before .before .before .before .before in
+    let at-follow-row = at-execution .before .before .before .before in
+    let at-pre = at-follow-row .before .before .before in
+    let at-rows = at-rows-from .rows-from in
+    let x = at-execution .execution in
     let ex = x .ensures in
-    let total = c .before .before .before .before .before .before .before .before .before .before .before .before .before .before .before .before .before .before .before .before .before .before .before .before .before .before .follow-row .result .below + x .result in
-    going-on (c .before .before .before .before .before .before .before .before .before .before .before .before .before .before .before .before .loop .inv) total (omega arith) (c .before .before .before .before .before .before .before .before .before .before .before .before .before .before .before .loop-test .taken) (omega arith) (c .before .before .before .before .before .before .before .before .before .before .before .before .before .before .before .before .before .before .before .before .before .before .before .before .before .before .before .before .before .pre .1 .1 .0 .2) (loadsIn (c .before .before .before .before .before .before .fill-run .last .0)) (c .before .before .before .before .before .before .fill-run .ensures)
+    let over = at-if1 .if1 .left in
+    let total = at-follow-row .follow-row .result .below + x .result in
+    going-on (at-loop .loop .inv) total (omega arith) (at-loop-test .loop-test .taken) (omega arith) (at-pre .pre .1 .1 .0 .2)
+    (loadsIn (at-fill-run .fill-run .last .0)) (at-fill-run .fill-run .ensures)
     (at-rows .last .0) (loadsIn (at-rows .last .1 .1 .1 .1 .1 .1 .0)) (at-rows .result) (at-rows .ensures)
 
 rows-from-fill-run-requires-2 : (t : ℕ) → rows-from-lts.Need-fill-run-requires-2 (claims t) (rows-from-at t) rows-from.Post Inv-loop μ-loop
 rows-from-fill-run-requires-2 t c κs = let r = c .before .before .before .loop .inv .some in (omega arith, omega arith)
 
 rows-from-mul-copy-row : (t : ℕ) → rows-from-lts.Need-mul-copy-row (claims t) (rows-from-at t) rows-from.Post Inv-loop μ-loop
-rows-from-mul-copy-row t c = omega (arith, c .before .before .before .before .before .before .before .before .before .before .before .before .before .before .before .before .before .before .pre .1 .1 .1 .few)
+rows-from-mul-copy-row t c =
+    let back-pre = c .before .before .before .before .before .before .before .before .before .before in
+    let at-pre = back-pre .before .before .before .before .before .before .before .before in
+    omega (arith, at-pre .pre .1 .1 .1 .few)
 
 rows-from-cast-copy-row : (t : ℕ) → rows-from-lts.Need-cast-copy-row (claims t) (rows-from-at t) rows-from.Post Inv-loop μ-loop
 rows-from-cast-copy-row t c = search needs
 
 rows-from-mul-copy-row-2 : (t : ℕ) → rows-from-lts.Need-mul-copy-row-2 (claims t) (rows-from-at t) rows-from.Post Inv-loop μ-loop
 rows-from-mul-copy-row-2 t c =
-    let asked = c .before .before .before .before .before .before .before .before .before .before .before .before .before .before .before .before .before .before .before .pre .1 in
-    omega (arith, room-here (asked .0) (c .before .before .before .before .before .before .before .before .before .before .before .before .before .before .before .before .before .before .before .args .i) (asked .1 .0 .0) (asked .1 .0 .1) (asked .1 .1))
+    let back-pre = c .before .before .before .before .before .before .before .before .before .before .before in
+    let at-pre = back-pre .before .before .before .before .before .before .before .before in
+    let asked = at-pre .pre .1 in
+    omega (arith, room-here (asked .0) (at-pre .args .i) (asked .1 .0 .0) (asked .1 .0 .1) (asked .1 .1))
 
 rows-from-copy-row-requires : (t : ℕ) → rows-from-lts.Need-copy-row-requires (claims t) (rows-from-at t) rows-from.Post Inv-loop μ-loop
 rows-from-copy-row-requires t c κs =
-    let asked = c .before .before .before .before .before .before .before .before .before .before .before .before .before .before .before .before .before .before .before .before .pre .1 in
-    let z = c .before .before .before .before .before .before .before .loop .inv .size in
-    let o = room-here (asked .0) (c .before .before .before .before .before .before .before .before .before .before .before .before .before .before .before .before .before .before .before .before .args .i) (asked .1 .0 .0) (asked .1 .0 .1) (asked .1 .1) in
-    (omega arith, asked .1 .0 .2, run-length (c .before .before .before .fill-run2 .ensures) (c .before .before .before .before .before .before .before .loop .inv .cells))
+    let at-fill-run2 = c .before .before .before in
+    let at-loop = at-fill-run2 .before .before .before .before in
+    let at-pre = at-loop .before .before .before .before .before .before .before .before .before .before .before .before .before in
+    let asked = at-pre .pre .1 in
+    let z = at-loop .loop .inv .size in
+    let o = room-here (asked .0) (at-pre .args .i) (asked .1 .0 .0) (asked .1 .0 .1) (asked .1 .1) in
+    (omega arith, asked .1 .0 .2, run-length (at-fill-run2 .fill-run2 .ensures) (at-loop .loop .inv .cells))
 
 rows-from-add-result : (t : ℕ) → rows-from-lts.Need-add-result (claims t) (rows-from-at t) rows-from.Post Inv-loop μ-loop
-rows-from-add-result t c = omega (arith, c .before .before .before .before .before .before .before .before .before .before .before .before .before .before .before .before .before .before .before .before .before .before .before .pre .1 .1 .1 .few)
+rows-from-add-result t c =
+    let back-pre = c .before .before .before .before .before .before .before .before .before .before .before .before .before .before .before in
+    let at-pre = back-pre .before .before .before .before .before .before .before .before in
+    omega (arith, at-pre .pre .1 .1 .1 .few)
 
 rows-from-same-length : (t : ℕ) → rows-from-lts.Need-same-length (claims t) (rows-from-at t) rows-from.Post Inv-loop μ-loop
-rows-from-same-length t c = c .before .before .copy-row .kept .0 ∙ c .before .before .before .before .before .before .before .before .before .before .loop .inv .size
+rows-from-same-length t c =
+    let at-copy-row = c .before .before in
+    let at-loop = at-copy-row .before .before .before .before .before .before .before .before in
+    at-copy-row .copy-row .kept .0 ∙ at-loop .loop .inv .size
 
 rows-from-returns : (t : ℕ) → rows-from-lts.Need-returns (claims t) (rows-from-at t) rows-from.Post Inv-loop μ-loop
 rows-from-returns t c =
-    let asked = c .before .before .before .before .before .before .before .before .before .before .before .before .before .before .before .before .before .before .before .before .before .before .before .pre .1 in
-    let x = c .before .before .before .before .before .before .before .before .before .before .before .before .before .before .before .before .execution in
+    let at-copy-row = c .before .before in
+    let at-fill-run2 = at-copy-row .before .before .before .before in
+    let at-if2 = at-fill-run2 .before .before in
+    let at-loop-test = at-if2 .before in
+    let at-loop = at-loop-test .before in
+    let at-execution = at-loop .before .before .before .before .before .before in
+    let at-follow-row = at-execution .before .before .before .before in
+    let at-pre = at-follow-row .before .before .before in
+    let asked = at-pre .pre .1 in
+    let x = at-execution .execution in
     let ex = x .ensures in
-    put-led (c .before .before .before .before .before .before .before .before .before .before .before .before .before .before .before .before .before .before .before .before .follow-row .ensures) (x .ensures .0)
-    (put-alone (c .before .before .before .before .before .before .before .before .before .before .loop .inv) (asked .0) (c .before .before .before .before .before .before .before .before .before .loop-test .left) (c .before .before .before .before .before .before .before .before .before .before .before .before .before .before .before .before .before .before .before .before .follow-row .result .below + x .result) (omega arith) (c .before .before .before .before .before .before .before .before .if2 .taken) (asked .1 .0 .2)
-    (loadsIn (c .before .before .before .before .before .before .fill-run2 .last .0)) (c .before .before .before .before .before .before .fill-run2 .ensures) (c .before .before .copy-row .last .0) (c .before .before .copy-row .ensures))
+    put-led (at-follow-row .follow-row .ensures) (x .ensures .0)
+    (put-alone (at-loop .loop .inv) (asked .0) (at-loop-test .loop-test .left) (at-follow-row .follow-row .result .below + x .result) (omega arith) (at-if2 .if2 .taken) (asked .1 .0 .2)
+    (loadsIn (at-fill-run2 .fill-run2 .last .0)) (at-fill-run2 .fill-run2 .ensures) (at-copy-row .copy-row .last .0) (at-copy-row .copy-row .ensures))
 
 rows-from-same-length-2 : (t : ℕ) → rows-from-lts.Need-same-length-2 (claims t) (rows-from-at t) rows-from.Post Inv-loop μ-loop
 rows-from-same-length-2 t c = c .before .before .loop .inv .size
 
 rows-from-returns-2 : (t : ℕ) → rows-from-lts.Need-returns-2 (claims t) (rows-from-at t) rows-from.Post Inv-loop μ-loop
-rows-from-returns-2 t c = put-led (c .before .before .before .before .before .before .before .before .before .before .before .before .follow-row .ensures) (c .before .before .before .before .before .before .before .before .execution .ensures .0) (put-some (c .before .before .loop .inv) (c .before .before .before .before .before .before .before .before .before .before .before .before .before .before .before .pre .1 .0) (c .before .loop-test .left) (c .if2 .left))
+rows-from-returns-2 t c =
+    let at-loop = c .before .before in
+    let at-execution = at-loop .before .before .before .before .before .before in
+    let at-follow-row = at-execution .before .before .before .before in
+    let at-pre = at-follow-row .before .before .before in
+    put-led (at-follow-row .follow-row .ensures) (at-execution .execution .ensures .0)
+    (put-some (at-loop .loop .inv) (at-pre .pre .1 .0) (c .before .loop-test .left) (c .if2 .left))
 
 pub +rows-from-spec : {M : Type 1} → statement M
 +rows-from-spec = close μ-rows-from λ t. rows-from-lts.spec (claims t)

@@ -18,15 +18,19 @@ abbrev μ-loop : tie.MeasureT-loop
 loop-holds : tie.Need-loop-holds Inv-loop μ-loop
 loop-holds c =
     let s = c .before .args in
-    filling-none (s .e .now) (s .start .now) (s .to .now) (s .p .now) (s .d .0) (s .n) (s .part .now) _ (loads-length _ largestD (length-replicate {A = ℕ} (largestD + 1) 0))
+    filling-none (s .e .now) (s .start .now) (s .to .now) (s .p .now) (s .d .0) (s .n) (s .part .now) _
+    (loads-length _ largestD (length-replicate {A = ℕ} (largestD + 1) 0))
 
 cast-if1 : tie.Need-cast-if1 Inv-loop μ-loop
 cast-if1 c = search needs
 
 rows-from-requires : tie.Need-rows-from-requires Inv-loop μ-loop
 rows-from-requires c κs =
-    let asked = c .before .before .before .before .before .before .pre in
-    (asked .0, ((omega arith, omega arith, omega arith, omega arith, c .before .before .before .before .loop .inv .cells), filling-room (c .before .before .before .before .loop .inv) (c .before .before .if1 .taken) (asked .1 .1)))
+    let at-if1 = c .before .before in
+    let at-loop = at-if1 .before .before in
+    let at-pre = at-loop .before .before in
+    let asked = at-pre .pre in
+    (asked .0, ((omega arith, omega arith, omega arith, omega arith, at-loop .loop .inv .cells), filling-room (at-loop .loop .inv) (at-if1 .if1 .taken) (asked .1 .1)))
 
 add-t17 : tie.Need-add-t17 Inv-loop μ-loop
 add-t17 c = omega arith
@@ -36,8 +40,12 @@ loop-less c = omega arith
 
 loop-again : tie.Need-loop-again Inv-loop μ-loop
 loop-again c =
-    let at-rows = c .before .before .before .rows-from in
-    filling-on (c .before .before .before .before .before .before .before .before .loop .inv) (c .before .before .before .before .before .before .if1 .taken) (at-rows .last .0) (loadsIn (at-rows .last .1 .1 .1 .1 .1 .1 .0)) (at-rows .result) (at-rows .ensures)
+    let at-rows-from = c .before .before .before in
+    let at-if1 = at-rows-from .before .before .before in
+    let at-loop = at-if1 .before .before in
+    let at-rows = at-rows-from .rows-from in
+    filling-on (at-loop .loop .inv) (at-if1 .if1 .taken) (at-rows .last .0) (loadsIn (at-rows .last .1 .1 .1 .1 .1 .1 .0)) (at-rows .result)
+    (at-rows .ensures)
 
 same-length : tie.Need-same-length Inv-loop μ-loop
 same-length c = c .before .before .loop .inv .size

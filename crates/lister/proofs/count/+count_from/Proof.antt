@@ -48,16 +48,22 @@ count-from-index-requires : (t : ℕ) → count-from-lts.Need-index-requires (cl
 count-from-index-requires t c κs = search needs
 
 count-from-element-copy-out-index-2 : (t : ℕ) → count-from-lts.Need-element-copy-out-index-2 (claims t) (count-from-at t) count-from.Post Inv-loop μ-loop
-count-from-element-copy-out-index-2 t c = omega (arith, c .before .before .before .before .follow .ensures .vertex)
+count-from-element-copy-out-index-2 t c =
+    let at-follow = c .before .before .before .before in
+    omega (arith, at-follow .follow .ensures .vertex)
 
 count-from-index-requires-2 : (t : ℕ) → count-from-lts.Need-index-requires-2 (claims t) (count-from-at t) count-from.Post Inv-loop μ-loop
 count-from-index-requires-2 t c κs = search needs
 
 count-from-loop-holds : (t : ℕ) → count-from-lts.Need-loop-holds (claims t) (count-from-at t) count-from.Post Inv-loop μ-loop
 count-from-loop-holds t c =
-    let asked = c .before .before .before .before .before .before .before .pre .1 in
-    let led = c .before .before .before .before .before .before .follow in
-    counting-none (asked .0) (led .result .v .0) (led .result .r .0) (c .before .before .before .before .before .before .before .args .cap) (c .before .before .index .result) (c .index2 .result) (led .ensures .vertex) (led .ensures .some) (asked .1 .2) (c .before .before .index .ensures) (c .index2 .ensures)
+    let at-index = c .before .before in
+    let at-follow = at-index .before .before .before .before in
+    let at-pre = at-follow .before in
+    let asked = at-pre .pre .1 in
+    let led = at-follow .follow in
+    counting-none (asked .0) (led .result .v .0) (led .result .r .0) (at-pre .args .cap) (at-index .index .result) (c .index2 .result)
+    (led .ensures .vertex) (led .ensures .some) (asked .1 .2) (at-index .index .ensures) (c .index2 .ensures)
 
 count-from-mul-t23 : (t : ℕ) → count-from-lts.Need-mul-t23 (claims t) (count-from-at t) count-from.Post Inv-loop μ-loop
 count-from-mul-t23 t c = omega (arith, c .before .loop .inv .turn .few)
@@ -72,7 +78,10 @@ count-from-loop-less : (t : ℕ) → count-from-lts.Need-loop-less (claims t) (c
 count-from-loop-less t c = omega arith
 
 count-from-loop-again : (t : ℕ) → count-from-lts.Need-loop-again (claims t) (count-from-at t) count-from.Post Inv-loop μ-loop
-count-from-loop-again t c = counting-skip (c .before .before .before .before .before .loop .inv) (c .before .before .before .before .loop-test .taken) (omega arith)
+count-from-loop-again t c =
+    let at-loop-test = c .before .before .before .before in
+    let at-loop = at-loop-test .before in
+    counting-skip (at-loop .loop .inv) (at-loop-test .loop-test .taken) (omega arith)
 
 count-from-element-copy-out-t29 : (t : ℕ) → count-from-lts.Need-element-copy-out-t29 (claims t) (count-from-at t) count-from.Post Inv-loop μ-loop
 count-from-element-copy-out-t29 t c = omega (arith, c .before .before .before .before .before .loop .inv .turn .few)
@@ -85,18 +94,31 @@ count-from-sub-count-from t c = omega (arith, c .before .before .before .before 
 
 count-from-count-from-requires : (t : ℕ) → count-from-lts.Need-count-from-requires (claims t) (count-from-at t) count-from.Post Inv-loop μ-loop
 count-from-count-from-requires t c κs =
-    let asked = c .before .before .before .before .before .before .before .before .before .before .before .before .before .before .before .before .pre .1 in
-    let w = edge-on (asked .0) (c .before .before .before .before .before .before .before .before .loop .inv .turn) (c .before .before .before .before .before .before .before .loop-test .taken) in
-    let below = c .before .before .before .before .before .before .before .before .loop .inv .below in
-    let led = c .before .before .before .before .before .before .before .before .before .before .before .before .before .before .before .follow .ensures .fewer in
+    let at-loop-test = c .before .before .before .before .before .before .before in
+    let at-loop = at-loop-test .before in
+    let at-follow = at-loop .before .before .before .before .before .before .before in
+    let at-pre = at-follow .before in
+    let asked = at-pre .pre .1 in
+    let w = edge-on (asked .0) (at-loop .loop .inv .turn) (at-loop-test .loop-test .taken) in
+    let below = at-loop .loop .inv .below in
+    let led = at-follow .follow .ensures .fewer in
     (omega arith, (asked .0, (omega arith, omega arith, omega arith, omega arith)))
 
 count-from-add-sum : (t : ℕ) → count-from-lts.Need-add-sum (claims t) (count-from-at t) count-from.Post Inv-loop μ-loop
-count-from-add-sum t c = let below = c .before .before .before .before .before .before .before .before .before .loop .inv .below in omega (arith, c .count-from .ensures)
+count-from-add-sum t c =
+    let at-loop = c .before .before .before .before .before .before .before .before .before in
+    let below = at-loop .loop .inv .below in omega (arith, c .count-from .ensures)
 
 count-from-returns : (t : ℕ) → count-from-lts.Need-returns (claims t) (count-from-at t) count-from.Post Inv-loop μ-loop
 count-from-returns t c =
-    counting-full (c .before .before .before .before .before .before .before .before .before .before .loop .inv) (c .before .count-from .result) (c .before .before .before .before .before .before .before .before .before .loop-test .taken) (omega arith) (c .before .count-from .ensures) (c .before .before .before .before .before .before .before .before .before .before .before .before .before .before .before .before .before .before .pre .1 .0) (c .before .before .before .before .before .before .before .before .before .before .before .before .before .before .before .before .before .follow .ensures) (c .if2 .taken)
+    let at-if1 = c .before .before .before .before .before in
+    let at-loop-test = at-if1 .before .before .before .before in
+    let at-loop = at-loop-test .before in
+    let at-follow = at-loop .before .before .before .before .before .before .before in
+    let at-pre = at-follow .before in
+    let over = at-if1 .if1 .left in
+    counting-full (at-loop .loop .inv) (c .before .count-from .result) (at-loop-test .loop-test .taken) (omega arith) (c .before .count-from .ensures)
+    (at-pre .pre .1 .0) (at-follow .follow .ensures) (c .if2 .taken)
 
 count-from-add-k-2 : (t : ℕ) → count-from-lts.Need-add-k-2 (claims t) (count-from-at t) count-from.Post Inv-loop μ-loop
 count-from-add-k-2 t c = omega (arith, c .before .before .before .before .before .before .before .before .before .before .loop .inv .turn .few)
@@ -106,13 +128,26 @@ count-from-loop-less-2 t c = omega arith
 
 count-from-loop-again-2 : (t : ℕ) → count-from-lts.Need-loop-again-2 (claims t) (count-from-at t) count-from.Post Inv-loop μ-loop
 count-from-loop-again-2 t c =
-    counting-on (c .before .before .before .before .before .before .before .before .before .before .loop .inv) (c .before .count-from .result) (c .before .before .before .before .before .before .before .before .before .loop-test .taken) (omega arith) (c .before .count-from .ensures) (c .if2 .left)
+    let at-if1 = c .before .before .before .before .before in
+    let at-loop-test = at-if1 .before .before .before .before in
+    let at-loop = at-loop-test .before in
+    let over = at-if1 .if1 .left in
+    counting-on (at-loop .loop .inv) (c .before .count-from .result) (at-loop-test .loop-test .taken) (omega arith) (c .before .count-from .ensures)
+    (c .if2 .left)
 
 count-from-returns-2 : (t : ℕ) → count-from-lts.Need-returns-2 (claims t) (count-from-at t) count-from.Post Inv-loop μ-loop
-count-from-returns-2 t c = counted-none (c .before .before .loop .inv) (c .before .before .before .before .before .before .before .before .before .before .pre .1 .0) (c .before .loop-test .left) (c .before .before .before .before .before .before .before .before .before .follow .ensures) (c .if3 .taken)
+count-from-returns-2 t c =
+    let at-loop = c .before .before in
+    let at-follow = at-loop .before .before .before .before .before .before .before in
+    let at-pre = at-follow .before in
+    counted-none (at-loop .loop .inv) (at-pre .pre .1 .0) (c .before .loop-test .left) (at-follow .follow .ensures) (c .if3 .taken)
 
 count-from-returns-3 : (t : ℕ) → count-from-lts.Need-returns-3 (claims t) (count-from-at t) count-from.Post Inv-loop μ-loop
-count-from-returns-3 t c = counted-some (c .before .before .loop .inv) (c .before .before .before .before .before .before .before .before .before .before .pre .1 .0) (c .before .loop-test .left) (c .before .before .before .before .before .before .before .before .before .follow .ensures) (c .if3 .left)
+count-from-returns-3 t c =
+    let at-loop = c .before .before in
+    let at-follow = at-loop .before .before .before .before .before .before .before in
+    let at-pre = at-follow .before in
+    counted-some (at-loop .loop .inv) (at-pre .pre .1 .0) (c .before .loop-test .left) (at-follow .follow .ensures) (c .if3 .left)
 
 pub +count-from-spec : {M : Type 1} → statement M
 +count-from-spec = close μ-count-from λ t. count-from-lts.spec (claims t)

@@ -9,7 +9,8 @@ use Rattle.lister.proofs.count.count_all.Statement.{statement}
 use Rattle.lister.proofs.count.count_all.Tie as tie
 
 abbrev Inv-loop : tie.InvT-loop
-Inv-loop start to p n d cap sum₀ v₀ sum v = (v .0 ≤ n) × (sum < cap) × (sum + length (allWays start to p (d .0) (v .0) n) ≡ length (allWays start to p (d .0) 0 n))
+Inv-loop start to p n d cap sum₀ v₀ sum v =
+    (v .0 ≤ n) × (sum < cap) × (sum + length (allWays start to p (d .0) (v .0) n) ≡ length (allWays start to p (d .0) 0 n))
 
 abbrev μ-loop : tie.MeasureT-loop
 μ-loop start to p n d cap sum₀ v₀ sum v = n - v .0
@@ -31,8 +32,11 @@ add-sum c = omega arith
 
 returns : tie.Need-returns Inv-loop μ-loop
 returns c =
-    let s = c .before .before .before .before .before .args in
-    let y = all-ways-length (s .start .now) (s .to .now) (s .p .now) (s .d .0) (c .before .before .before .before .loop .v .0) (s .n) (c .before .before .if1 .taken) in
+    let at-if1 = c .before .before in
+    let at-loop = at-if1 .before .before in
+    let at-args = at-loop .before in
+    let s = at-args .args in
+    let y = all-ways-length (s .start .now) (s .to .now) (s .p .now) (s .d .0) (at-loop .loop .v .0) (s .n) (at-if1 .if1 .taken) in
     let z = c .before .count-from .ensures in
     omega arith
 
@@ -44,9 +48,13 @@ loop-less c = omega arith
 
 loop-again : tie.Need-loop-again Inv-loop μ-loop
 loop-again c =
-    let s = c .before .before .before .before .before .before .args in
-    let y = all-ways-length (s .start .now) (s .to .now) (s .p .now) (s .d .0) (c .before .before .before .before .before .loop .v .0) (s .n) (c .before .before .before .if1 .taken) in
-    let z = c .before .before .count-from .ensures in
+    let at-count-from = c .before .before in
+    let at-if1 = at-count-from .before in
+    let at-loop = at-if1 .before .before in
+    let at-args = at-loop .before in
+    let s = at-args .args in
+    let y = all-ways-length (s .start .now) (s .to .now) (s .p .now) (s .d .0) (at-loop .loop .v .0) (s .n) (at-if1 .if1 .taken) in
+    let z = at-count-from .count-from .ensures in
     (omega arith, omega arith, omega arith)
 
 returns-2 : tie.Need-returns-2 Inv-loop μ-loop

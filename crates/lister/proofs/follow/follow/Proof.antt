@@ -14,7 +14,8 @@ abbrev μ-loop : tie.MeasureT-loop
 
 -- the edges out of u
 turn : (c : tie.After-index2 Inv-loop μ-loop)
-    → let at-loop = c .before .before .before .before .before in Turn (at-loop .before .args .start .now) (at-loop .loop .u .0) (c .index2 .result) (c .before .before .index .result)
+    → let at-loop = c .before .before .before .before .before in
+    Turn (at-loop .before .args .start .now) (at-loop .loop .u .0) (c .index2 .result) (c .before .before .index .result)
 turn c =
     let at-index = c .before .before in
     let at-loop = at-index .before .before .before in
