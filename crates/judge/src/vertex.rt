@@ -46,7 +46,8 @@ pub(crate) fn judge_vertex(
         let next = t.tasks[j];
         let paths = path_count(next, job.d, MOST_PATHS + 1);
         if MOST_PATHS < paths {
-            return too_many_paths(j);
+            let crowded = j as u8;
+            return too_many_paths(TaskNumber(crowded));
         }
         above = with_paths(above, j, paths, job.d);
         j += 1;

@@ -114,6 +114,9 @@ path-count-requires c κs =
     let entry = counting .before .before .before .before .before .before .before .before .before in
     count-asks (asked entry) _ (counting .loop .j) (counted .loop-test .taken)
 
+cast-crowded : tie.Need-cast-crowded Inv-loop μ-loop Inv-loop2 μ-loop2 Inv-loop3 μ-loop3
+cast-crowded c = search needs
+
 too-many-paths-requires :
     tie.Need-too-many-paths-requires Inv-loop μ-loop Inv-loop2 μ-loop2 Inv-loop3 μ-loop3
 too-many-paths-requires c κs = search needs
@@ -353,6 +356,7 @@ judge-vertex-spec =
     element-copy-out-next
     add-path-count
     path-count-requires
+    cast-crowded
     too-many-paths-requires
     returns
     with-paths-requires
