@@ -1,5 +1,7 @@
 -- How many meet, miss, are unfinished and are refused. Assumes nothing.
 use Prim.Native.Nat.{ℕ, _+_}
+use mathlib.Core.Bool.{Bool, _&&_}
+use lib.Dec.{eqb}
 use Rattle.meaning.specs.Whole as Meant
 use Rattle.kinds.specs.declared.Verdict.{Verdict}
 use Rattle.kinds.specs.declared.Verdict.the-variants.{Meets, Misses, Unfinished, Refused}
@@ -24,3 +26,7 @@ oneMore c (Meets count) = record { meeting = c .meeting + 1; missing = c .missin
 oneMore c (Misses count cells) = record { meeting = c .meeting; missing = c .missing + 1; unfinishing = c .unfinishing; refusing = c .refusing }
 oneMore c (Unfinished budget) = record { meeting = c .meeting; missing = c .missing; unfinishing = c .unfinishing + 1; refusing = c .refusing }
 oneMore c (Refused at) = record { meeting = c .meeting; missing = c .missing; unfinishing = c .unfinishing; refusing = c .refusing + 1 }
+
+-- "The stock controller wants a no whenever there is doubt": yes exactly if nothing misses, nothing is unfinished and nothing is refused
+abbrev pub goesOut : Meant.Counts → Bool
+goesOut n = eqb (n .missing) 0 && eqb (n .unfinishing) 0 && eqb (n .refusing) 0
