@@ -2,3 +2,4 @@ pub mod Judged
 pub mod Whole
 pub mod Desk
 pub mod Demands
+pub mod GoesOut
