@@ -18,17 +18,17 @@ abbrev pub SaysYes : TableVerdict → Type 0
 SaysYes (Whole.Counted c) = T (goesOut (meantCounts c))
 SaysYes (Whole.Refused at) = ⊥
 
--- of no vertex there are legal paths of the higher tasks that make it late
-abbrev pub NoneLate : Table → Type 0
-NoneLate ts = (q : Place) → List·Memᴰ q (places ts) → Overloadable ts (q .task) (q .vertex) → ⊥
-
 -- every vertex is judged to meet, with budget b and n work cells
 abbrev pub AllMeet : Table → ℕ → ℕ → Type 0
 AllMeet ts b n = (q : Place) → List·Memᴰ q (places ts) → (c : ℕ) × (verdictAt ts b n q ≡ meets c)
 
--- a yes is given only where no vertex can be late, and wherever every vertex is judged to meet
+-- of no vertex there are legal paths of the higher tasks that make it late
+abbrev pub NoneLate : Table → Type 0
+NoneLate ts = (q : Place) → List·Memᴰ q (places ts) → Overloadable ts (q .task) (q .vertex) → ⊥
+
+-- a yes is given only where every vertex is judged to meet, so that none can be late, and wherever it is
 pub record YesIsRight (text : List ℕ) (b n : ℕ) (r : TableVerdict) : Type 0 where
-  pub only : SaysYes r → (ts : Table) × (read text ≡ readable ts) × NoneLate ts
+  pub only : SaysYes r → (ts : Table) × (read text ≡ readable ts) × AllMeet ts b n × NoneLate ts
   pub always : (ts : Table) → read text ≡ readable ts → AllMeet ts b n → SaysYes r
 
 -- for every text, budget, number of work cells, and answer: `judge_table`'s (`TableJudged`), and the one that the words for people end with

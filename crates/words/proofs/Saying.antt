@@ -29,8 +29,8 @@ pub record Saying (text : List ℕ) (t : Table) (work wit : List ℕ) (c : Count
   pub works : length work ≡ deskWork
   pub wits : length wit ≡ deskWitness
 
-pub saying-none : {text : List ℕ} {t : Table} {work wit : List ℕ} → Held t × (read text ≡ readable (tableOf t)) → length work ≡ deskWork → length wit ≡ deskWitness
-    → {c : Counts} {q : Place} → c ≡ noCounts → q ≡ firstPlace → Saying text t work wit c q
+pub saying-none : {text : List ℕ} {t : Table} {work wit : List ℕ} → Held t × (read text ≡ readable (tableOf t))
+    → length work ≡ deskWork → length wit ≡ deskWitness → {c : Counts} {q : Place} → c ≡ noCounts → q ≡ firstPlace → Saying text t work wit c q
 saying-none h a b e f = record { means = h .1; so-far = so-far-none (h .0) deskBudget deskWork e f; works = a; wits = b }
 
 module _ {text : List ℕ} {t : Table} {work wit : List ℕ} {c : Counts} {q : Place} (k : Saying text t work wit c q) where
