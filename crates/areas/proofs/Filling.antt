@@ -1,4 +1,4 @@
--- The stretches of tasks, one after the other: how many cells they take, and where each stands among them. Assumes nothing.
+-- The stretches of tasks, one after the other: how many cells they take, and where each stands among them.
 use mathlib.Core.Path.{_≡_, refl, sym, ap, ap₂, _∙_}
 use Prim.Native.Nat.{ℕ, _+_, _-_, _*_, _≤_, _<_}
 use native.Mathlib.Omega.{arith}

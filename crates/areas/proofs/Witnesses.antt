@@ -1,4 +1,4 @@
--- The paths of a miss at their places, one task after the other. Assumes nothing.
+-- The paths of a miss at their places, one task after the other.
 use mathlib.Core.Path.{_≡_, refl, sym, ap, subst, _∙_}
 use Prim.Native.Nat.{ℕ, zero, suc, _+_, _≤_, _<_, zero-le}
 use native.Mathlib.Omega.{arith}

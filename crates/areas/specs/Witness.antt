@@ -1,4 +1,4 @@
--- The cells of a path by value, and the paths at places of the higher tasks' lists. Assumes nothing.
+-- The cells of a path by value, and the paths at places of the higher tasks' lists.
 use Prim.Native.Nat.{ℕ}
 use mathlib.Core.List.{List, [], _∷_, map}
 use lib.ListN.{take, getD}

@@ -1,4 +1,4 @@
--- The tasks of a held table are ready to be listed, and the last one's vertex 0 gives a horizon. Assumes nothing.
+-- The tasks of a held table are ready to be listed, and the last one's vertex 0 gives a horizon.
 use mathlib.Core.Path.{ap, sym, subst}
 use Prim.Native.Nat.{ℕ, _≤_, _<_}
 use native.Mathlib.Omega.{arith}

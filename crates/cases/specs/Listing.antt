@@ -1,4 +1,4 @@
--- What is known when a task's loads are listed. Assumes nothing.
+-- What is known when a task's loads are listed.
 use mathlib.Core.Path.{_≡_}
 use Prim.Native.Nat.{ℕ, _*_, _≤_, _<_}
 use mathlib.Core.List.{List}

@@ -1,4 +1,4 @@
--- The record of a sound task is ready to be listed. Assumes nothing.
+-- The record of a sound task is ready to be listed.
 use mathlib.Core.Path.{_≡_, sym, ap, subst, _∙_}
 use mathlib.Core.Logic.{inl, inr}
 use Prim.Native.Nat.{ℕ, zero, suc, _≤_, _<_}

@@ -1,4 +1,4 @@
--- The columns say the task that the record stands for. Assumes nothing.
+-- The columns say the task that the record stands for.
 use mathlib.Core.Path.{_≡_, refl, sym, ap, ap₂, subst, _∙_}
 use Prim.Native.Nat.{ℕ, zero, suc, _+_, _-_, _≤_, _<_}
 use native.Mathlib.Omega.{arith}

@@ -1,4 +1,4 @@
--- Counting verdicts one after the other. Assumes nothing.
+-- Counting verdicts one after the other.
 use mathlib.Core.Path.{_≡_, sym, ap, _∙_}
 use Prim.Native.Nat.{ℕ, _+_, _<_}
 use native.Mathlib.Omega.{arith}

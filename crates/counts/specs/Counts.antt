@@ -1,4 +1,4 @@
--- How many meet, miss, are unfinished and are refused. Assumes nothing.
+-- How many meet, miss, are unfinished and are refused.
 use Prim.Native.Nat.{ℕ, _+_}
 use Rattle.meaning.specs.Whole as Meant
 use Rattle.kinds.specs.declared.Verdict.{Verdict}

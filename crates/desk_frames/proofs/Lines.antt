@@ -1,4 +1,4 @@
--- Writing into a lent area, byte by byte and line by line. Assumes nothing.
+-- Writing into a lent area, byte by byte and line by line.
 use mathlib.Core.Path.{_≡_, refl, ap, ap₂, subst, _∙_}
 use Prim.Native.Nat.{ℕ, _+_, _*_, _/_, _%_, _≤_, _<_}
 use native.Mathlib.Numerals.{add-one}

@@ -1,4 +1,4 @@
--- The paths that cells hold, line by line. Assumes nothing.
+-- The paths that cells hold, line by line.
 use mathlib.Core.Path.{_≡_, refl, sym, ap, ap₂, subst, _∙_}
 use Prim.Native.Nat.{ℕ, suc, _+_, _-_, _≤_, _<_}
 use native.Mathlib.Omega.{arith}

@@ -1,4 +1,4 @@
--- The paths that cells hold, and the lines of a vertex. Assumes nothing.
+-- The paths that cells hold, and the lines of a vertex.
 use Prim.Native.Nat.{ℕ, zero, suc, _≤_, _<_}
 use mathlib.Core.List.{List, [], _∷_, _++_}
 use lib.ListN.{length, take, drop, getD}

@@ -1,4 +1,4 @@
--- A right line is pairs of digits and a line feed: its bytes, and the lines behind it, as the definitions cut them. Assumes nothing.
+-- A right line is pairs of digits and a line feed: its bytes, and the lines behind it, as the definitions cut them.
 use mathlib.Core.Path.{_≡_, refl, sym, ap, subst, _∙_}
 use Prim.Native.Nat.{ℕ, _+_, _*_, _<_}
 use native.Mathlib.Omega.{arith}

@@ -1,4 +1,4 @@
--- What the reader's functions of one line return, from what their calls and their tests gave. Assumes nothing.
+-- What the reader's functions of one line return, from what their calls and their tests gave.
 use mathlib.Core.Path.{_≡_, sym, _∙_}
 use Prim.Native.Nat.{ℕ, _≤_, _<_}
 use mathlib.Core.Bool.{Bool, true, false, not}

@@ -1,4 +1,4 @@
--- An edge's line is read as it means. Assumes nothing.
+-- An edge's line is read as it means.
 use mathlib.Core.Path.{_≡_, refl, ap, subst, _∙_}
 use Prim.Native.Nat.{ℕ, suc, _-_, _≤_, _<_}
 use native.Mathlib.Omega.{arith}

@@ -1,4 +1,4 @@
--- A line that is expected: what its first bytes and its line feed say of its frame, and how it is refused. Assumes nothing.
+-- A line that is expected: what its first bytes and its line feed say of its frame, and how it is refused.
 use mathlib.Core.Path.{_≡_, refl, sym, ap, subst, _∙_}
 use Prim.Native.Nat.{ℕ, _+_, _*_, _<_}
 use native.Mathlib.Omega.{arith}

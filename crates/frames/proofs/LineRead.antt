@@ -1,4 +1,4 @@
--- One line read, as document 01 reads it. Assumes nothing.
+-- One line read, as document 01 reads it.
 use mathlib.Core.Path.{_≡_, refl, ap, _∙_}
 use Prim.Native.Nat.{ℕ, suc, _+_, _*_}
 use mathlib.Core.Option.{Option, none}

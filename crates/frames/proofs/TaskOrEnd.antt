@@ -1,4 +1,4 @@
--- The line after whole tasks, another task's or the end's, is read as it means. Assumes nothing.
+-- The line after whole tasks, another task's or the end's, is read as it means.
 use mathlib.Core.Path.{_≡_, refl, sym, ap, _∙_}
 use Prim.Native.Nat.{ℕ, suc, _<_}
 use native.Mathlib.Omega.{arith}

@@ -1,4 +1,4 @@
--- A vertex's line is read as it means. Assumes nothing.
+-- A vertex's line is read as it means.
 use mathlib.Core.Path.{_≡_, refl, _∙_}
 use Prim.Native.Nat.{ℕ, suc, _-_, _<_}
 use native.Mathlib.Omega.{arith}

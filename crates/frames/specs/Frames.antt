@@ -1,4 +1,4 @@
--- Each line by the frame that must stand there: only where that fails is the line looked through for the reason. Assumes nothing.
+-- Each line by the frame that must stand there: only where that fails is the line looked through for the reason.
 use Prim.Native.Nat.{ℕ, _+_}
 use mathlib.Core.Bool.{Bool, false}
 use mathlib.Core.List.{List}

@@ -1,4 +1,4 @@
--- The first range longer than one is found and cut to its first half. Assumes nothing.
+-- The first range longer than one is found and cut to its first half.
 use mathlib.Core.Path.{_≡_, refl, sym, ap, subst, _∙_}
 use Prim.Native.Nat.{ℕ, zero, suc, _≤_, _<_}
 use native.Mathlib.Omega.{arith}

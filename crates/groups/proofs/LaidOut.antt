@@ -1,4 +1,4 @@
--- What the stretches give: rows whose starts can be summed, and paths of every task. Assumes nothing.
+-- What the stretches give: rows whose starts can be summed, and paths of every task.
 use Prim.Native.Nat.{ℕ, zero, suc, _≤_, _<_}
 use native.Mathlib.Nat.{le-trans}
 use native.Mathlib.Omega.{arith}

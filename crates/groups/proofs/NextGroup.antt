@@ -1,4 +1,4 @@
--- Back from the last task: ranges that end their tasks' paths are whole again, up to the first that does not. Assumes nothing.
+-- Back from the last task: ranges that end their tasks' paths are whole again, up to the first that does not.
 use mathlib.Core.Path.{_≡_, refl, sym, ap, ap₂, subst, _∙_}
 use Prim.Native.Nat.{ℕ, zero, suc, _+_, _-_, _≤_, _<_}
 use native.Mathlib.Omega.{arith}

@@ -1,4 +1,4 @@
--- The groups still to be examined are a function of the group that the walk stands at. Assumes nothing.
+-- The groups still to be examined are a function of the group that the walk stands at.
 use mathlib.Core.Path.{_≡_, refl, ap, _∙_}
 use Prim.Native.Nat.{ℕ, suc, _+_, _≤_, _<_}
 use native.Mathlib.Omega.{arith}

@@ -1,4 +1,4 @@
--- The top group is written range by range. Assumes nothing.
+-- The top group is written range by range.
 use mathlib.Core.Path.{_≡_, refl, sym, ap, ap₂, subst, _∙_}
 use Prim.Native.Nat.{ℕ, suc, _+_, _<_}
 use native.Mathlib.Omega.{arith}

@@ -1,4 +1,4 @@
--- What a C host is told settles the answer: no two results satisfy a statement, and a whole table's answer can be taken out of its number. Assumes nothing.
+-- What a C host is told settles the answer: no two results satisfy a statement, and a whole table's answer can be taken out of its number.
 use mathlib.Core.Path.{_≡_, refl, sym, ap, subst, _∙_}
 use Prim.Native.Nat.{ℕ, _+_, _*_, _/_, _%_, _≤_}
 use native.Mathlib.Omega.{arith}

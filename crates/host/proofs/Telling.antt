@@ -1,4 +1,4 @@
--- What the judge's statements say, in the numbers that a C host is told. Assumes nothing.
+-- What the judge's statements say, in the numbers that a C host is told.
 use mathlib.Core.Path.{_≡_, sym, ap, _∙_}
 use Prim.Native.Nat.{ℕ}
 use mathlib.Core.List.{List}

@@ -1,4 +1,4 @@
--- The answer to a text: refused at its line, or that of its table. Assumes nothing.
+-- The answer to a text: refused at its line, or that of its table.
 use mathlib.Core.Path.{_≡_, refl, sym, ap, subst}
 use Prim.Native.Nat.{ℕ}
 use mathlib.Core.List.{List}

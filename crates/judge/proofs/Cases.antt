@@ -1,4 +1,4 @@
--- Which case of a verdict has these numbers. Assumes nothing.
+-- Which case of a verdict has these numbers.
 use mathlib.Core.Path.{_≡_, refl, sym, ap, ap₂}
 use Prim.Native.Nat.{ℕ}
 use mathlib.Core.List.{List}

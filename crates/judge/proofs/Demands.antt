@@ -1,4 +1,4 @@
--- The demands hold of the judging call: what a verdict's numbers say of the answer, then what the definitions say of it. Assumes nothing.
+-- The demands hold of the judging call: what a verdict's numbers say of the answer, then what the definitions say of it.
 use mathlib.Core.Path.{_≡_, refl, sym, ap, subst, _∙_}
 use Prim.Native.Nat.{ℕ, _≤_}
 use mathlib.Core.List.{List, [], _∷_}

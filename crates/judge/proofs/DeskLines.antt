@@ -1,4 +1,4 @@
--- The lines of a table's vertices, and how long they can be. Assumes nothing.
+-- The lines of a table's vertices, and how long they can be.
 use mathlib.Core.Path.{_≡_, refl, ap, _∙_}
 use Prim.Native.Nat.{ℕ, suc, _+_, _*_, _≤_}
 use native.Mathlib.Omega.{arith}

@@ -1,4 +1,4 @@
--- The desk's lines, one vertex after the other, and the counts behind them. Assumes nothing.
+-- The desk's lines, one vertex after the other, and the counts behind them.
 use mathlib.Core.Path.{_≡_, refl, sym, ap, subst, _∙_}
 use Prim.Native.Nat.{ℕ, _+_, _≤_, _<_}
 use native.Mathlib.Omega.{arith}

@@ -1,4 +1,4 @@
--- The tasks of higher priority than task i of a held table, one after the other: their paths counted, their stretches filled. Assumes nothing.
+-- The tasks of higher priority than task i of a held table, one after the other: their paths counted, their stretches filled.
 use mathlib.Core.Path.{_≡_, refl, sym, ap, subst, _∙_}
 use Prim.Native.Nat.{ℕ, _+_, _*_, _≤_, _<_, min}
 use native.Mathlib.Omega.{arith}

@@ -1,4 +1,4 @@
--- The cells of a miss, one higher task after the other. Assumes nothing.
+-- The cells of a miss, one higher task after the other.
 use mathlib.Core.Path.{_≡_, sym, ap, subst, _∙_}
 use Prim.Native.Nat.{ℕ, _+_, _*_, _≤_, _<_}
 use native.Mathlib.Omega.{arith}

@@ -1,4 +1,4 @@
--- A vertex of a held table: the answer at each return. Assumes nothing.
+-- A vertex of a held table: the answer at each return.
 use mathlib.Core.Path.{_≡_, refl, sym, ap, ap₂, subst, _∙_}
 use Prim.Native.Nat.{ℕ, _+_, _*_, _≤_, _<_, min}
 use native.Mathlib.Omega.{arith}

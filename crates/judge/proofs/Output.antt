@@ -1,4 +1,4 @@
--- The desk's whole output: what each way to end writes. Assumes nothing.
+-- The desk's whole output: what each way to end writes.
 use mathlib.Core.Path.{_≡_, refl, sym, ap, subst, _∙_}
 use Prim.Native.Nat.{ℕ, _≤_, _<_}
 use native.Mathlib.Omega.{arith}

@@ -1,4 +1,4 @@
--- A loop over the vertices of a table: those from a place on. Assumes nothing.
+-- A loop over the vertices of a table: those from a place on.
 use mathlib.Core.Path.{_≡_, refl, sym, ap, ap₂, subst, _∙_}
 use Prim.Native.Nat.{ℕ, suc, _+_, _-_, _≤_, _<_}
 use native.Mathlib.Nat.{sub-zero}

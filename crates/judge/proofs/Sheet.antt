@@ -1,4 +1,4 @@
--- The refusal sheet's rows 8 to 11, from what the code tests, in order. Assumes nothing.
+-- The refusal sheet's rows 8 to 11, from what the code tests, in order.
 use mathlib.Core.Path.{_≡_, refl, sym, ap, subst, _∙_}
 use Prim.Native.Nat.{ℕ, zero, suc, _+_, _-_, _*_, _≤_, _<_}
 use native.Mathlib.Omega.{arith}

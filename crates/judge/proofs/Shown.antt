@@ -1,4 +1,4 @@
--- What the desk shows of a vertex, from its verdict and the witness area, is what `meaning` has for it. Assumes nothing.
+-- What the desk shows of a vertex, from its verdict and the witness area, is what `meaning` has for it.
 use mathlib.Core.Path.{_≡_, sym, ap, ap₂, subst, _∙_}
 use Prim.Native.Nat.{ℕ}
 use native.Mathlib.Omega.{arith}

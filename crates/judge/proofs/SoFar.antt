@@ -1,4 +1,4 @@
--- A loop over a table's vertices that counts their verdicts: what holds when it comes to a place. Assumes nothing.
+-- A loop over a table's vertices that counts their verdicts: what holds when it comes to a place.
 use mathlib.Core.Path.{_≡_, sym, subst}
 use Prim.Native.Nat.{ℕ, _*_, _≤_, _<_}
 use native.Mathlib.Omega.{arith}

@@ -1,4 +1,4 @@
--- Judging a table's vertices one after the other: the four counts and the work area. Assumes nothing.
+-- Judging a table's vertices one after the other: the four counts and the work area.
 use mathlib.Core.Path.{_≡_, refl, sym, ap, _∙_}
 use Prim.Native.Nat.{ℕ, _≤_, _<_}
 use mathlib.Core.List.{List, map}

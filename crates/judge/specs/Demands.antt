@@ -1,5 +1,5 @@
 -- The customer's demands, said of the judging calls: r is what `judge` answers and work′, wit′ are the areas as it returns. `proofs/Demands` proves each.
--- That every call returns, whatever the bytes, numbers, budget and areas, is what the check of `judge` and `judge_table` says: they have no `requires`. Assumes nothing.
+-- That every call returns, whatever the bytes, numbers, budget and areas, is what the check of `judge` and `judge_table` says: they have no `requires`.
 use mathlib.Core.Path.{_≡_}
 use Prim.Native.Nat.{ℕ, _-_, _*_, _≤_, _<_}
 use mathlib.Core.List.{List, map}

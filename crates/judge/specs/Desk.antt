@@ -1,4 +1,4 @@
--- The desk's whole output, in a lent area. Assumes nothing.
+-- The desk's whole output, in a lent area.
 use Prim.Native.Nat.{ℕ}
 use mathlib.Core.List.{List, []}
 use lib.ListN.{replicate}

@@ -1,4 +1,4 @@
--- What a judging promises: the verdict's numbers, and every cell of both areas. Assumes nothing.
+-- What a judging promises: the verdict's numbers, and every cell of both areas.
 use mathlib.Core.Path.{_≡_}
 use Prim.Native.Nat.{ℕ}
 use mathlib.Core.List.{List}

@@ -1,4 +1,4 @@
--- The vertices of a table one after the other, and how many have which verdict. Assumes nothing.
+-- The vertices of a table one after the other, and how many have which verdict.
 use mathlib.Core.Path.{_≡_}
 use Prim.Native.Nat.{ℕ, _<_}
 use mathlib.Core.List.{List}

@@ -1,4 +1,4 @@
--- The numbers settle the case: no two refusals and no two verdicts have the same. Assumes nothing.
+-- The numbers settle the case: no two refusals and no two verdicts have the same.
 use mathlib.Core.Path.{_≡_, refl, sym, ap, _∙_}
 use Prim.Native.Nat.{ℕ}
 use mathlib.Core.List.{List, [], _∷_}

@@ -1,4 +1,4 @@
--- The document's number and values of each case. Assumes nothing.
+-- The document's number and values of each case.
 use Prim.Native.Nat.{ℕ}
 use mathlib.Core.List.{List, [], _∷_}
 use lib.ListN.{getD}

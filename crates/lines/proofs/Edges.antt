@@ -1,4 +1,4 @@
--- An edge's line, and the lines of a task's edges, are read as they mean. Assumes nothing.
+-- An edge's line, and the lines of a task's edges, are read as they mean.
 use mathlib.Core.Path.{_≡_, refl, ap, _∙_}
 use Prim.Native.Nat.{ℕ, zero, suc, _+_, _*_, _≤_}
 use native.Mathlib.Omega.{arith}

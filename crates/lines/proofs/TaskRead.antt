@@ -1,4 +1,4 @@
--- The lines of a task, its vertices and then its edges, are read as they mean. Assumes nothing.
+-- The lines of a task, its vertices and then its edges, are read as they mean.
 use mathlib.Core.Path.{_≡_, refl, sym, ap, subst, _∙_}
 use Prim.Native.Nat.{ℕ, _+_, _*_, _≤_}
 use native.Mathlib.Omega.{arith}

@@ -1,4 +1,4 @@
--- A vertex's line, and the lines of a task's vertices, are read as they mean. Assumes nothing.
+-- A vertex's line, and the lines of a task's vertices, are read as they mean.
 use mathlib.Core.Path.{_≡_, refl, ap, _∙_}
 use Prim.Native.Nat.{ℕ, zero, suc, _+_, _*_, _≤_}
 use native.Mathlib.Omega.{arith}

@@ -1,4 +1,4 @@
--- The path at a place, of all complete paths. Assumes nothing.
+-- The path at a place, of all complete paths.
 use mathlib.Core.Path.{_≡_, refl, sym, ap, ap₂, subst, _∙_}
 use Prim.Native.Nat.{ℕ, _+_, _≤_, _<_, zero-le}
 use native.Mathlib.Omega.{arith}

@@ -1,4 +1,4 @@
--- A path by value, filled cell by cell. Assumes nothing.
+-- A path by value, filled cell by cell.
 use mathlib.Core.Path.{_≡_, refl, sym, ap, ap₂, _∙_}
 use Prim.Native.Nat.{ℕ, _+_, _<_, _≤_}
 use native.Mathlib.Numerals.{add-one}

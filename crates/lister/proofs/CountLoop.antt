@@ -1,4 +1,4 @@
--- The loops of `follow` and `count_from`. Assumes nothing.
+-- The loops of `follow` and `count_from`.
 use mathlib.Core.Path.{_≡_, refl, sym, ap, ap₂, _∙_}
 use Prim.Native.Nat.{ℕ, _+_, _-_, _≤_, _<_, min, max}
 use native.Mathlib.Omega.{arith}

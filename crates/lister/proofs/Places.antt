@@ -1,4 +1,4 @@
--- The way at a place, of those on from a vertex. Assumes nothing.
+-- The way at a place, of those on from a vertex.
 use mathlib.Core.Path.{_≡_, refl, sym, ap, ap₂, _∙_}
 use Prim.Native.Nat.{ℕ, zero, suc, _+_, _-_, _≤_, _<_}
 use native.Mathlib.Numerals.{add-one}

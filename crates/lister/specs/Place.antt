@@ -1,4 +1,4 @@
--- The path at a place in the order, by value. Assumes nothing.
+-- The path at a place in the order, by value.
 use mathlib.Core.Path.{_≡_}
 use mathlib.Core.Bool.{true, false}
 use Prim.Native.Nat.{ℕ, _+_, _≤_, _<_}

@@ -1,4 +1,4 @@
--- Rows along lone edges: those put from where they lead are those put from where they start. Assumes nothing.
+-- Rows along lone edges: those put from where they lead are those put from where they start.
 use mathlib.Core.Path.{_≡_, refl, ap, ap₂, subst, _∙_}
 use Prim.Native.Nat.{ℕ, _+_, _-_, _*_, _≤_, _<_}
 use native.Mathlib.Omega.{arith}

@@ -1,4 +1,4 @@
--- The rows of the ways on from a vertex, put one after another. Assumes nothing.
+-- The rows of the ways on from a vertex, put one after another.
 use mathlib.Core.Path.{_≡_, refl, sym, ap, ap₂, subst, _∙_}
 use Prim.Native.Nat.{ℕ, suc, _+_, _-_, _*_, _≤_, _<_}
 use native.Mathlib.Nat.{add-zero, add-mul, le-trans, mul-le-mul-right}

@@ -1,4 +1,4 @@
--- The rows of the complete paths' loads in a stretch. Assumes nothing.
+-- The rows of the complete paths' loads in a stretch.
 use mathlib.Core.Path.{_≡_}
 use Prim.Native.Nat.{ℕ, _+_, _-_, _*_, _≤_}
 use mathlib.Core.List.{List, [], _∷_, _++_, map}

@@ -1,4 +1,4 @@
--- What each answer to a readable text says of the vertex. Assumes nothing.
+-- What each answer to a readable text says of the vertex.
 use mathlib.Core.Path.{_≡_, refl, sym, ap, subst, _∙_}
 use Prim.Native.Nat.{ℕ, _-_, _*_, _≤_, _<_}
 use native.Mathlib.Nat.{le-trans}

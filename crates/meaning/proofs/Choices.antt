@@ -1,4 +1,4 @@
--- Choices among listed paths, as the groups have them, and as the demands do: one path of each task. Assumes nothing.
+-- Choices among listed paths, as the groups have them, and as the demands do: one path of each task.
 use mathlib.Core.Path.{_≡_, refl, ap, ap₂, subst, subst₂}
 use Prim.Native.Nat.{ℕ, _+_, _*_, _≤_}
 use native.Mathlib.Nat.{le-refl}

@@ -1,4 +1,4 @@
--- The list of complete paths has exactly the legal paths that are complete, each of at most d vertices. Assumes nothing.
+-- The list of complete paths has exactly the legal paths that are complete, each of at most d vertices.
 use mathlib.Core.Path.{_≡_, refl, sym, ap, subst, _∙_}
 use Prim.Native.Nat.{ℕ, zero, suc, _+_, _-_, _≤_, _<_, zero-le}
 use native.Mathlib.Nat.{le-refl}

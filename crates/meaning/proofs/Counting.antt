@@ -1,4 +1,4 @@
--- C, as document 01 defines it, is what the recursion over the sides sees. Assumes nothing.
+-- C, as document 01 defines it, is what the recursion over the sides sees.
 use mathlib.Core.Path.{_≡_, refl, sym, ap, ap₂, _∙_}
 use Prim.Native.Nat.{ℕ, zero, suc, _+_}
 use native.Mathlib.Omega.{arith}

@@ -1,4 +1,4 @@
--- A whole table's four counts: they add up, and more budget never lowers the first two. Assumes nothing.
+-- A whole table's four counts: they add up, and more budget never lowers the first two.
 use mathlib.Core.Path.{_≡_, refl, ap₂, _∙_}
 use Prim.Native.Nat.{ℕ, suc, _+_, _*_, _≤_, _<_}
 use native.Mathlib.Nat.{le-refl}

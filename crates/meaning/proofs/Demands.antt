@@ -1,4 +1,4 @@
--- The demands hold of the definitions: each statement of `specs/Demands`, from the law file that is named after what it shows. Assumes nothing.
+-- The demands hold of the definitions: each statement of `specs/Demands`, from the law file that is named after what it shows.
 use mathlib.Core.Path.{_≡_}
 use Prim.Native.Nat.{ℕ, _≤_}
 use mathlib.Core.List.{List}

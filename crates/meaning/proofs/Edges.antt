@@ -1,4 +1,4 @@
--- The edges of a sound task: a tick or more each, out of a vertex to rising vertices, so at most one between two. Assumes nothing.
+-- The edges of a sound task: a tick or more each, out of a vertex to rising vertices, so at most one between two.
 use mathlib.Core.Path.{_≡_, sym, ap, subst, _∙_, refl}
 use Prim.Native.Nat.{ℕ, _≤_, _<_}
 use native.Mathlib.Omega.{arith}

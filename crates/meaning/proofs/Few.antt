@@ -1,4 +1,4 @@
--- C is at most 2P - 1: there are no more groups. Assumes nothing.
+-- C is at most 2P - 1: there are no more groups.
 use mathlib.Core.Path.{_≡_, refl, sym, ap, _∙_}
 use Prim.Native.Nat.{ℕ, zero, suc, _+_, _-_, _*_, _≤_}
 use native.Mathlib.Nat.{le-refl, mul-pos, mul-add, add-mul}

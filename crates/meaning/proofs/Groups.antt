@@ -1,4 +1,4 @@
--- Groups: an overloading choice makes every group that holds it overload; the children share a group's choices in order. Assumes nothing.
+-- Groups: an overloading choice makes every group that holds it overload; the children share a group's choices in order.
 use mathlib.Core.Path.{_≡_, refl, sym, ap, subst, _∙_}
 use Prim.Native.Nat.{ℕ, zero, suc, _+_, _-_, _≤_, _<_, zero-le}
 use native.Mathlib.Nat.{le-refl}

@@ -1,4 +1,4 @@
--- Laws of the words on lists: tests, members, sums, the largest. Assumes nothing.
+-- Laws of the words on lists: tests, members, sums, the largest.
 use mathlib.Core.Path.{_≡_, refl, sym, ap, ap₂, subst, _∙_}
 use Prim.Native.Nat.{ℕ, zero, suc, _+_, _-_, _≤_, _<_}
 use native.Mathlib.Decide.{ℕ-discrete}

@@ -1,4 +1,4 @@
--- Loads never fall as t grows, and a legal path of a sound task has at most the largest e for each tick. Assumes nothing.
+-- Loads never fall as t grows, and a legal path of a sound task has at most the largest e for each tick.
 use mathlib.Core.Path.{refl, ap}
 use Prim.Native.Nat.{ℕ, zero, suc, _-_, _*_, _≤_, zero-le}
 use native.Mathlib.Omega.{arith}

@@ -1,4 +1,4 @@
--- The paths of a miss: one a higher task, of at most d vertices, each a vertex of its task. Assumes nothing.
+-- The paths of a miss: one a higher task, of at most d vertices, each a vertex of its task.
 use mathlib.Core.Path.{_≡_, refl, sym, ap, subst, _∙_}
 use Prim.Native.Nat.{ℕ, zero, suc, _≤_, _<_}
 use native.Mathlib.Nat.{le-trans}

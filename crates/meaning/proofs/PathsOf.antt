@@ -1,4 +1,4 @@
--- The paths that the walk chooses from: legal, in order, at least one, and no legal path loads more than some of them. Assumes nothing.
+-- The paths that the walk chooses from: legal, in order, at least one, and no legal path loads more than some of them.
 -- What other laws know of `pathsOf` is here.
 use Prim.Native.Nat.{ℕ, _≤_, _<_}
 use native.Mathlib.Omega.{arith}

@@ -1,4 +1,4 @@
--- What every readable text keeps, and where a refusal of a text can stand. Assumes nothing.
+-- What every readable text keeps, and where a refusal of a text can stand.
 use mathlib.Core.Path.{_≡_, refl, sym, subst, _∙_}
 use Prim.Native.Nat.{ℕ, zero, suc, _+_, _-_, _*_, _≤_, _<_, min}
 use native.Mathlib.Omega.{arith}

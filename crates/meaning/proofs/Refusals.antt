@@ -1,4 +1,4 @@
--- The refusal sheet's rows 8 to 11: none is given exactly when none holds. Assumes nothing.
+-- The refusal sheet's rows 8 to 11: none is given exactly when none holds.
 use mathlib.Core.Path.{_≡_, refl, sym, _∙_}
 use Prim.Native.Nat.{ℕ, _≤_, _<_}
 use native.Mathlib.Nat.{le-trans}

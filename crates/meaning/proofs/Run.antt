@@ -1,4 +1,4 @@
--- The run sees C groups and finds the witness, or is cut short exactly if the budget is below C. Assumes nothing.
+-- The run sees C groups and finds the witness, or is cut short exactly if the budget is below C.
 use mathlib.Core.Path.{_≡_, refl, sym, ap, ap₂, _∙_}
 use Prim.Native.Nat.{ℕ, zero, suc, _+_, _≤_, _<_}
 use native.Mathlib.Nat.{le-refl}

@@ -1,4 +1,4 @@
--- The walk as a recursion over its two sides: how many groups are seen below a group, and what is found. Assumes nothing.
+-- The walk as a recursion over its two sides: how many groups are seen below a group, and what is found.
 use mathlib.Core.Path.{_≡_, refl}
 use Prim.Native.Nat.{ℕ, zero, suc, _+_}
 use mathlib.Core.Bool.{Bool, true, false}

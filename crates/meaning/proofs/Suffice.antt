@@ -1,4 +1,4 @@
--- Complete paths suffice: up to the horizon, the load of any legal path is at most that of some complete path. Assumes nothing.
+-- Complete paths suffice: up to the horizon, the load of any legal path is at most that of some complete path.
 use mathlib.Core.Path.{_≡_, refl, sym, ap, subst, _∙_}
 use Prim.Native.Nat.{ℕ, zero, suc, _-_, _≤_, _<_}
 use native.Mathlib.Nat.{le-refl, le-trans}

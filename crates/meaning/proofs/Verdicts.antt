@@ -1,4 +1,4 @@
--- The verdict on a vertex: what each of its cases says, and that the witness is there exactly if some legal paths overload. Assumes nothing.
+-- The verdict on a vertex: what each of its cases says, and that the witness is there exactly if some legal paths overload.
 use mathlib.Core.Path.{_≡_, refl, sym, ap, subst, _∙_}
 use Prim.Native.Nat.{ℕ, _+_, _≤_, _<_}
 use native.Mathlib.Omega.{arith}

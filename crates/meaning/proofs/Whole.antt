@@ -1,4 +1,4 @@
--- The whole table's verdicts are those of its vertices, each judged with a witness area that is long enough. Assumes nothing.
+-- The whole table's verdicts are those of its vertices, each judged with a witness area that is long enough.
 use mathlib.Core.Path.{_≡_, refl, sym, ap, subst, _∙_}
 use Prim.Native.Nat.{ℕ, suc, _+_, _-_, _≤_, _<_}
 use native.Mathlib.Nat.{le-refl, le-trans, mul-le-mul}

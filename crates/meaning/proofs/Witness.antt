@@ -1,4 +1,4 @@
--- The witness, the least overloading choice, is what the recursion over the sides finds. Assumes nothing.
+-- The witness, the least overloading choice, is what the recursion over the sides finds.
 use mathlib.Core.Path.{_≡_, refl, sym, ap, ap₂, subst, _∙_}
 use Prim.Native.Nat.{ℕ, zero, suc, _≤_}
 use native.Mathlib.Nat.{le-refl}

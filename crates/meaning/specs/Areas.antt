@@ -1,4 +1,4 @@
--- Lent areas: what a vertex needs of them, and what they hold after its verdict. Assumes nothing.
+-- Lent areas: what a vertex needs of them, and what they hold after its verdict.
 use mathlib.Core.Path.{_≡_}
 use Prim.Native.Nat.{ℕ, _+_, _-_, _*_}
 use mathlib.Core.List.{List, _++_, map}

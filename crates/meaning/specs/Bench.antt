@@ -1,4 +1,4 @@
--- The bench examples R1 to R8, as one table under one claim. Assumes nothing.
+-- The bench examples R1 to R8, as one table under one claim.
 use Prim.Native.Nat.{ℕ}
 use Prim.Native.Char.{code}
 use Prim.Native.String.{String, [] as []ˢ, _∷_ as _∷ˢ_}

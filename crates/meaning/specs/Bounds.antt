@@ -1,4 +1,4 @@
--- Every number that document 01 sets, once. Assumes nothing.
+-- Every number that document 01 sets, once.
 use Prim.Native.Nat.{ℕ, _+_, _-_, _*_}
 
 -- ---- a table

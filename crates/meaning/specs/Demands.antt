@@ -1,4 +1,4 @@
--- The demands, and what they rest on, as statements about the definitions. `proofs/Demands` proves each of them. Assumes nothing.
+-- The demands, and what they rest on, as statements about the definitions. `proofs/Demands` proves each of them.
 use mathlib.Core.Path.{_≡_}
 use Prim.Native.Nat.{ℕ, _+_, _-_, _*_, _≤_, _<_}
 use mathlib.Core.Bool.{false, _&&_}

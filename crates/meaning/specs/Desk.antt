@@ -1,4 +1,4 @@
--- The desk program: from the bytes that it reads to the bytes that it writes. Assumes nothing.
+-- The desk program: from the bytes that it reads to the bytes that it writes.
 use Prim.Native.Nat.{ℕ, suc, _+_, _/_, _%_}
 use mathlib.Core.Bool.{true, false}
 use mathlib.Core.List.{List, [], _∷_, _++_, map}

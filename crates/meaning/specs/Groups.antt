@@ -1,4 +1,4 @@
--- The walk through groups: ranges, groups, their tree, the witness and the number C. Assumes nothing.
+-- The walk through groups: ranges, groups, their tree, the witness and the number C.
 -- Of a path only its load plays a part here, so all of it is over any type X of paths with a load at each tick.
 use Prim.Native.Nat.{ℕ, zero, suc, _+_, _/_}
 use mathlib.Core.Bool.{Bool, true, false, not, _&&_}

@@ -1,4 +1,4 @@
--- A judging call: the text, then the refusal sheet's rows 8 to 11, then the walk. Assumes nothing.
+-- A judging call: the text, then the refusal sheet's rows 8 to 11, then the walk.
 use Prim.Native.Nat.{ℕ}
 use mathlib.Core.Bool.{Bool, not, _&&_}
 use mathlib.Core.Option.{Option, none, some}

@@ -1,4 +1,4 @@
--- Paths and their load. Assumes nothing.
+-- Paths and their load.
 use Prim.Native.Nat.{ℕ, zero, suc, _+_, _-_, _<_}
 use mathlib.Core.Path.{_≡_}
 use mathlib.Core.Logic.{_⊎_}

@@ -1,4 +1,4 @@
--- What every readable table keeps: the bounds, d at most p, edges strictly rising with their ends in the task. Assumes nothing.
+-- What every readable table keeps: the bounds, d at most p, edges strictly rising with their ends in the task.
 use mathlib.Core.Path.{_≡_}
 use mathlib.Core.Logic.{_⊎_}
 use Prim.Native.Nat.{_≤_, _<_}

@@ -1,5 +1,4 @@
 -- Frames on paper, and the refusal sheet's rows 1 to 7: from the bytes of a text to its table, or to the number and the line of its refusal.
--- Assumes nothing.
 use Prim.Native.Nat.{ℕ, zero, suc, _+_, _-_, _*_}
 use mathlib.Core.Bool.{Bool, true, false, _&&_, _||_}
 use mathlib.Core.Option.{Option, none, some}

@@ -1,4 +1,4 @@
--- The verdict on a vertex under the tasks of higher priority, with a budget. Assumes nothing.
+-- The verdict on a vertex under the tasks of higher priority, with a budget.
 use Prim.Native.Nat.{ℕ}
 use mathlib.Core.Option.{Option, none, some}
 use mathlib.Core.List.{List, [], _∷_, map}

@@ -1,4 +1,4 @@
--- The walk itself: a step examines one group, a run takes at most as many steps as the budget. Assumes nothing.
+-- The walk itself: a step examines one group, a run takes at most as many steps as the budget.
 -- `Demands` states that it sees exactly C groups and finds exactly the witness.
 use Prim.Native.Nat.{ℕ, zero, suc}
 use mathlib.Core.Bool.{true, false}

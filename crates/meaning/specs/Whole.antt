@@ -1,4 +1,4 @@
--- Judging a whole table. Assumes nothing.
+-- Judging a whole table.
 use Prim.Native.Nat.{ℕ, suc}
 use mathlib.Core.List.{List, [], _∷_, _++_, map}
 use lib.ListN.{length, getD}

@@ -1,4 +1,4 @@
--- What is counted, found and put over a task's columns is what the definitions say of the task. Assumes nothing.
+-- What is counted, found and put over a task's columns is what the definitions say of the task.
 use mathlib.Core.Path.{_≡_, refl, sym, ap, subst, _∙_}
 use Prim.Native.Nat.{ℕ, _≤_, min}
 use native.Mathlib.Omega.{arith}

@@ -1,4 +1,4 @@
--- The text check's number, and that the refusal's number and its line can be taken out of it again. Assumes nothing.
+-- The text check's number, and that the refusal's number and its line can be taken out of it again.
 use mathlib.Core.Path.{_≡_, refl, sym, ap}
 use Prim.Native.Nat.{ℕ, _+_, _*_, _/_, _%_}
 use native.Mathlib.Omega.{arith}

@@ -1,4 +1,4 @@
--- The way of the reader through a text, task by task. Assumes nothing.
+-- The way of the reader through a text, task by task.
 use Prim.Native.Nat.{ℕ, zero, suc, _+_, _*_}
 use mathlib.Core.List.{List}
 use lib.ListN.{length, drop, set}

@@ -1,4 +1,4 @@
--- What a caller learns of a text from its reading: the table that a readable one means, the refusal of the others. Assumes nothing.
+-- What a caller learns of a text from its reading: the table that a readable one means, the refusal of the others.
 use mathlib.Core.Path.{_≡_, refl, sym, ap, subst, _∙_}
 use Prim.Native.Nat.{ℕ, zero, suc, _≤_}
 use native.Mathlib.Omega.{arith}

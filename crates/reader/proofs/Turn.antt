@@ -1,4 +1,4 @@
--- One turn of the loop over a text's tasks. Assumes nothing.
+-- One turn of the loop over a text's tasks.
 use mathlib.Core.Path.{_≡_, refl, sym, ap, _∙_}
 use Prim.Native.Nat.{ℕ, zero, suc, _+_, _-_, _*_, _≤_, _<_}
 use native.Mathlib.Omega.{arith}

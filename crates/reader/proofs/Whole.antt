@@ -1,4 +1,4 @@
--- The descent by task reads a text as it means. Assumes nothing.
+-- The descent by task reads a text as it means.
 use mathlib.Core.Path.{_≡_, refl, sym, ap, _∙_}
 use Prim.Native.Nat.{ℕ, zero, suc, _+_, _*_, _≤_, _<_}
 use native.Mathlib.Omega.{arith}

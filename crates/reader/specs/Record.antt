@@ -1,4 +1,4 @@
--- The record of what a text reads as: its status, and every cell of the table beside it. Assumes nothing.
+-- The record of what a text reads as: its status, and every cell of the table beside it.
 use Prim.Native.Nat.{ℕ}
 use Rattle.meaning.specs.Text as Meant
 use Rattle.meaning.specs.Text.{readable, unreadable}

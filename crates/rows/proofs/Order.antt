@@ -1,4 +1,4 @@
--- Where a range of the splitting lies, and its row among the rows. Assumes nothing.
+-- Where a range of the splitting lies, and its row among the rows.
 use mathlib.Core.Path.{_≡_, refl, sym, ap}
 use Prim.Native.Nat.{ℕ, suc, _+_, _*_, _≤_, _<_}
 use native.Mathlib.Nat.{mul-le-mul-right, mul-le-mul, suc-mul}

@@ -1,4 +1,4 @@
--- A record stands for the table that it is the record of. Assumes nothing.
+-- A record stands for the table that it is the record of.
 use mathlib.Core.Path.{_≡_, refl, ap, ap₂, _∙_}
 use Prim.Native.Nat.{ℕ, _+_, _-_, _<_, suc, _≤_}
 use mathlib.Core.List.{List, [], _∷_, _++_, map, append-assoc}

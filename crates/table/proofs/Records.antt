@@ -1,4 +1,4 @@
--- The record of a readable table: what stands in its cells. Assumes nothing.
+-- The record of a readable table: what stands in its cells.
 use mathlib.Core.Path.{_≡_, sym, ap, subst, _∙_}
 use Prim.Native.Nat.{ℕ, _≤_, _<_}
 use native.Mathlib.Omega.{arith}

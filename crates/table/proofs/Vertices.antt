@@ -1,4 +1,4 @@
--- A vertex of a held table: its cells of the record. Assumes nothing.
+-- A vertex of a held table: its cells of the record.
 use mathlib.Core.Path.{_≡_, ap, _∙_}
 use Prim.Native.Nat.{ℕ, _≤_, _<_}
 use native.Mathlib.Omega.{arith}

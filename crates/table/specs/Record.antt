@@ -1,4 +1,4 @@
--- The record of a table, every cell of it, and the table that a record stands for. Assumes nothing.
+-- The record of a table, every cell of it, and the table that a record stands for.
 use mathlib.Core.Path.{_≡_}
 use Prim.Native.Nat.{ℕ, _-_}
 use mathlib.Core.List.{List, _++_, map}

@@ -1,4 +1,4 @@
--- A group of ranges stands for a group of paths: it is single, splits and overloads as that one. Assumes nothing.
+-- A group of ranges stands for a group of paths: it is single, splits and overloads as that one.
 use mathlib.Core.Path.{_≡_, refl, sym, ap, ap₂, _∙_}
 use Prim.Native.Nat.{ℕ, zero, suc, _+_, _-_, _≤_, _<_}
 use native.Mathlib.Omega.{arith}

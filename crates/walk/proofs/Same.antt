@@ -1,4 +1,4 @@
--- The walk over ranges is the walk over groups of paths, step by step. Assumes nothing.
+-- The walk over ranges is the walk over groups of paths, step by step.
 use mathlib.Core.Path.{_≡_, refl, sym, ap, ap₂, subst, _∙_}
 use Prim.Native.Nat.{ℕ, zero, suc, _+_, _≤_}
 use native.Mathlib.Nat.{add-zero, zero-add}

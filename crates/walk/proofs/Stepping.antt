@@ -1,4 +1,4 @@
--- A step of the code is a step of the walk over ranges. Assumes nothing.
+-- A step of the code is a step of the walk over ranges.
 use mathlib.Core.Path.{_≡_, sym, ap, _∙_}
 use Prim.Native.Nat.{ℕ}
 use native.Mathlib.Omega.{arith}
