@@ -3,8 +3,8 @@
 #   job WORK DEADLINE NOTES...   its next vertex
 #   next FROM TO SEPARATION      its next edge
 BEGIN { tick = 125; largest_d = 200; largest_p = 1000 }
-function up(time) { return int((time + tick - 1) / tick) }
 function down(time, most) { return time < most * tick ? int(time / tick) : most }
+function up(time) { return int(time / tick) + (time % tick > 0) }
 function put_task() {
   if (vertices) printf "01%02x%02x\n%s%s", vertices, edges, vertex_lines, edge_lines
   vertices = edges = 0
