@@ -21,6 +21,7 @@ pub mod Choices
 pub mod Refusals
 pub mod Verdicts
 pub mod Readable
+pub mod LongestText
 pub mod Answers
 pub mod Counts
 pub mod MissPaths

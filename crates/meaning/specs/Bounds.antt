@@ -22,6 +22,35 @@ largestD = 200
 abbrev pub largestP : ℕ
 largestP = 1000
 
+-- ---- a table's text, in bytes
+
+-- the line of a frame of n bytes: two digits each, and the line feed
+abbrev pub lineLength : ℕ → ℕ
+lineLength n = 2 * n + 1
+
+-- 01, vertices, edges
+abbrev pub taskLine : ℕ
+taskLine = lineLength 3
+
+-- 02, e in 2 bytes, d in 2
+abbrev pub vertexLine : ℕ
+vertexLine = lineLength 5
+
+-- 03, from, to, p in 2 bytes
+abbrev pub edgeLine : ℕ
+edgeLine = lineLength 5
+
+-- 00
+abbrev pub endLine : ℕ
+endLine = lineLength 1
+
+-- a task's own line, its vertices' and its edges'
+abbrev pub longestTask : ℕ
+longestTask = taskLine + mostVertices * vertexLine + mostEdges * edgeLine
+
+abbrev pub longestText : ℕ
+longestText = mostTasks * longestTask + endLine
+
 -- ---- judging
 
 -- a vertex has at most so many higher tasks
@@ -48,10 +77,6 @@ abbrev pub deskBudget : ℕ
 deskBudget = 100000
 
 -- ---- the desk's output, in bytes
-
--- the line of a frame of n bytes: two digits each, and the line feed
-abbrev pub lineLength : ℕ → ℕ
-lineLength n = 2 * n + 1
 
 -- 10, task, vertex, verdict, 4 bytes count
 abbrev pub verdictLine : ℕ
