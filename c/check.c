@@ -6,20 +6,20 @@
 #include "tectavirio.h"
 
 /* As the desk program does, check reads a byte more than an input may have: refusal 12 is "program only: input longer than 8,191 bytes". */
-enum { ROOM = TECTAVIRIO_LONGEST_INPUT + 1, TOO_LONG = 12 };
+enum { ROOM = TECTAVIRIO_LONGEST_INPUT + 1 };
 
 enum { READABLE = 0, REFUSED = 1, NO_ANSWER = 2 };
 
 /* The row of the refusal sheet that refuses a text; none for a number that no text is refused by. */
 static const char *row_of(unsigned number) {
     switch (number) {
-    case 1: return "a line must be pairs of the digits 0-9a-f, at least one pair, and end in a line feed";
-    case 2: return "this kind of frame isn't allowed here, or its length is wrong for its kind";
-    case 3: return "a number is outside its bounds, or an edge names a vertex that the task hasn't";
-    case 4: return "the deadline of the edge's starting vertex exceeds the separation";
-    case 5: return "the edge doesn't come after the one before it in its task";
-    case 6: return "the text ends and no end frame was read";
-    case 7: return "there are bytes after the end frame";
+    case TECTAVIRIO_BAD_LINE: return "a line must be pairs of the digits 0-9a-f, at least one pair, and end in a line feed";
+    case TECTAVIRIO_WRONG_FRAME: return "this kind of frame isn't allowed here, or its length is wrong for its kind";
+    case TECTAVIRIO_OUT_OF_BOUNDS: return "a number is outside its bounds, or an edge names a vertex that the task hasn't";
+    case TECTAVIRIO_DEADLINE_OVER_SEPARATION: return "the deadline of the edge's starting vertex exceeds the separation";
+    case TECTAVIRIO_EDGE_NOT_AFTER: return "the edge doesn't come after the one before it in its task";
+    case TECTAVIRIO_NO_END: return "the text ends and no end frame was read";
+    case TECTAVIRIO_BYTES_AFTER_END: return "there are bytes after the end frame";
     default: return NULL;
     }
 }
@@ -41,11 +41,11 @@ static int read_file(const char *name, uint8_t *bytes, size_t room, size_t *coun
 
 static int say_checked(const uint8_t *text, size_t count) {
     if (count == ROOM) {
-        printf("REFUSED (%d): the input is longer than %d bytes\n", TOO_LONG, TECTAVIRIO_LONGEST_INPUT);
+        printf("REFUSED (%d): the input is longer than %d bytes\n", TECTAVIRIO_INPUT_TOO_LONG, TECTAVIRIO_LONGEST_INPUT);
         return REFUSED;
     }
-    uint32_t checked = text_check(text, count);
-    unsigned number = checked / 65536, line = checked % 65536;
+    uint32_t checked = tectavirio_text_check(text, count);
+    unsigned number = tectavirio_checked_refusal(checked), line = tectavirio_checked_line(checked);
     if (number == 0) {
         puts("READABLE");
         return READABLE;

@@ -1,7 +1,14 @@
-/* Tectavirio's proved calls, for a C host on x86-64 Linux.
+/* Tectavirio's proved calls, for a C host on x86-64 Linux. In the project's folder
  *
- * `rt staticlib reader` writes libreader.a, which has text_check; `rt staticlib host` writes libhost.a, which has the judging calls. Link either or
- * both. The calls keep nothing from one to the next, allocate nothing and need of the C library memcpy and memset alone.
+ *     rt staticlib host
+ *
+ * proves the calls and writes target/staticlib/libhost.a, which has all that begin with tectavirio_, and
+ *
+ *     cc -std=c99 -Ic -o target/check c/check.c target/staticlib/libhost.a
+ *
+ * builds a host with it, here c/check.c.
+ *
+ * The calls keep nothing from one to the next, allocate nothing and need of the C library memcpy and memset alone.
  *
  * Every call answers whatever the bytes, numbers, budget and lengths are. What a pointer leads to is the host's duty, since no call can see it:
  *   - an area has as many elements as its length says, each of its type and aligned for it; an area of length 0 may have a null pointer;
@@ -38,38 +45,69 @@
 extern "C" {
 #endif
 
-/* The text check: refusal number x 65,536 + line, both 0 for a readable text. The numbers are the refusal sheet's 1 to 7; lines count from 1. */
-uint32_t text_check(const uint8_t *text, size_t text_bytes);
+/* The refusal sheet's numbers. Each is returned with a place: the line, counted from 1 (1 to 7), zero (8, 12), the task (9), the cells needed (10, 11). */
+enum tectavirio_refusal {
+    TECTAVIRIO_BAD_LINE = 1,
+    TECTAVIRIO_WRONG_FRAME = 2,
+    TECTAVIRIO_OUT_OF_BOUNDS = 3,
+    TECTAVIRIO_DEADLINE_OVER_SEPARATION = 4,
+    TECTAVIRIO_EDGE_NOT_AFTER = 5,
+    TECTAVIRIO_NO_END = 6,
+    TECTAVIRIO_BYTES_AFTER_END = 7,
+    TECTAVIRIO_NO_SUCH_VERTEX = 8, /* or no such task */
+    TECTAVIRIO_TOO_MANY_PATHS = 9,
+    TECTAVIRIO_WORK_TOO_SHORT = 10,
+    TECTAVIRIO_WITNESS_TOO_SHORT = 11,
+    TECTAVIRIO_INPUT_TOO_LONG = 12 /* the desk program's alone */
+};
 
 /* A verdict's number. */
-enum {
+enum tectavirio_verdict {
     TECTAVIRIO_MEETS = 0,
     TECTAVIRIO_MISSES = 1,
     TECTAVIRIO_UNFINISHED = 2,
     TECTAVIRIO_REFUSED = 3
 };
 
-/* Judges one vertex of the text's table and gives its verdict's number. A budget is a number from 0 to 4,294,967,295.
+/* The text check: a refusal from 1 to 7 and its line in one number, both 0 for a readable text. */
+uint32_t tectavirio_text_check(const uint8_t *text, size_t text_bytes);
+
+/* What the text check's number holds. */
+static inline unsigned tectavirio_checked_refusal(uint32_t checked) { return checked / 65536; }
+static inline unsigned tectavirio_checked_line(uint32_t checked) { return checked % 65536; }
+
+/* The same call by itself, by document 01's name: `rt staticlib reader` writes target/staticlib/libreader.a, which has it and can be linked alone or
+ * beside libhost.a. */
+uint32_t text_check(const uint8_t *text, size_t text_bytes);
+
+/* Judges one vertex of the text's table and gives its verdict's number. Task, vertex and budget are any numbers from 0 to 4,294,967,295.
  *
  *   verdict      *value                          *place
  *   meets        C, the groups examined          0
  *   misses       C                               the witness cells written
  *   unfinished   the budget                      0
- *   refused      the refusal sheet's 1 to 11     the line (1 to 7), zero (8), the task (9), the cells needed (10, 11)
+ *   refused      the refusal's number, 1 to 11   what is returned with it
  *
  * The work area needs d times the sum over higher tasks of (2 x paths - 1) cells. After meets, misses and unfinished the needed cells, from the front,
  * are zero and the rest unchanged. The witness area needs h x (1 + d) cells, h being the number of higher tasks. On a miss its front holds, per
  * higher task in order, the path's length and vertices; all else in it is unchanged. The other verdicts don't touch it. No refusal changes a lent
  * area. */
-uint8_t tectavirio_judge(const uint8_t *text, size_t text_bytes, uint8_t task, uint8_t vertex, uint32_t budget, uint32_t *work, size_t work_cells,
+uint8_t tectavirio_judge(const uint8_t *text, size_t text_bytes, uint32_t task, uint32_t vertex, uint32_t budget, uint32_t *work, size_t work_cells,
                          uint16_t *witness, size_t witness_cells, uint32_t *value, uint32_t *place);
 
 /* Judges a whole table, with the budget given afresh to each vertex. A readable text gives how many vertices meet, miss, are unfinished and are refused
- * by 9 or 10, each in a byte, those that meet in the highest of the four: a number below 4,294,967,296. A refused text gives its refusal's number
- * (1 to 7) x 4,294,967,296 + its line, and nothing is changed. Zeroed from the front are as many work cells as the largest need among vertices not
- * refused. */
+ * by 9 or 10. A refused text gives its refusal, from 1 to 7, and its line, and nothing is changed. Zeroed from the front are as many work cells as the
+ * largest need among vertices not refused. */
 uint64_t tectavirio_judge_table(const uint8_t *text, size_t text_bytes, uint32_t budget, uint32_t *work, size_t work_cells);
 
+/* What a whole table's number holds: the text's refusal, 0 for a readable text, and its line, where there is a refusal; the four counts, where there is
+ * none. */
+static inline unsigned tectavirio_judged_refusal(uint64_t judged) { return (unsigned)(judged / 4294967296); }
+static inline unsigned tectavirio_judged_line(uint64_t judged) { return (unsigned)(judged % 4294967296); }
+static inline unsigned tectavirio_judged_meeting(uint64_t judged) { return (unsigned)(judged / 16777216 % 256); }
+static inline unsigned tectavirio_judged_missing(uint64_t judged) { return (unsigned)(judged / 65536 % 256); }
+static inline unsigned tectavirio_judged_unfinishing(uint64_t judged) { return (unsigned)(judged / 256 % 256); }
+static inline unsigned tectavirio_judged_refusing(uint64_t judged) { return (unsigned)(judged % 256); }
 
 /* Writes the desk program's output for an input, its frames as lines of hexadecimal, from the front of `out`, and gives its length in bytes. All else in
  * `out` is unchanged. An `out` shorter than TECTAVIRIO_LONGEST_OUTPUT is left as it is, and the length is 0. */

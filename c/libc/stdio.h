@@ -12,6 +12,7 @@ size_t fwrite(const void *, size_t, size_t, FILE *);
 int fprintf(FILE *, const char *, ...);
 int fputs(const char *, FILE *);
 int printf(const char *, ...);
+int sprintf(char *, const char *, ...);
 int puts(const char *);
 int putchar(int);
 void perror(const char *);

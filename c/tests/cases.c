@@ -1,5 +1,5 @@
 /* The calls from C, on the cases of the proved program of this name: the text check (c), one vertex (v) and a whole table (t) on marked areas, and the
- * desk's output (d). What is written for a case is what that program writes for it.
+ * desk's output (d). What is written for a case is what that program writes for it. With a word on the command line the text check is the reader's own.
  *
  * Before a judging call each cell holds its own mark, a number that no judge writes; its line has what the call left in its areas. */
 #include "sequence.h"
@@ -63,16 +63,19 @@ static void put_witness(size_t cells) {
     }
 }
 
+/* The text check, by one of its two names. */
+static uint32_t (*check)(const uint8_t *, size_t) = tectavirio_text_check;
+
 /* A line: the refusal's frame, or 00 for a readable text. */
 static void check_text(const struct one_case *c) {
-    uint32_t checked = text_check(c->text, c->length);
-    if (checked == 0) {
+    uint32_t checked = check(c->text, c->length);
+    if (tectavirio_checked_refusal(checked) == 0) {
         puts("00");
         return;
     }
     put(0x1e, 1);
-    put(checked / 65536, 1);
-    put(checked % 65536, 2);
+    put(tectavirio_checked_refusal(checked), 1);
+    put(tectavirio_checked_line(checked), 2);
     puts("");
 }
 
@@ -93,13 +96,16 @@ static void judge_vertex(const struct one_case *c) {
 static void judge_whole(const struct one_case *c) {
     mark_areas(c);
     uint64_t judged = tectavirio_judge_table(c->text, c->length, c->budget, c->work_cells ? work : NULL, c->work_cells);
-    if (judged >> 32 == 0) {
+    if (tectavirio_judged_refusal(judged) == 0) {
         put(0x1f, 1);
-        put(judged, 4);
+        put(tectavirio_judged_meeting(judged), 1);
+        put(tectavirio_judged_missing(judged), 1);
+        put(tectavirio_judged_unfinishing(judged), 1);
+        put(tectavirio_judged_refusing(judged), 1);
     } else {
         put(0x1e, 1);
-        put(judged >> 32, 1);
-        put((uint32_t)judged, 2);
+        put(tectavirio_judged_refusal(judged), 1);
+        put(tectavirio_judged_line(judged), 2);
     }
     put_work(c->work_cells);
     puts("");
@@ -128,8 +134,12 @@ static void answer(const struct one_case *c) {
     }
 }
 
-int main(void) {
+int main(int count, char **words) {
     static struct sequence s;
+    (void)words;
+    if (count > 1) {
+        check = text_check;
+    }
     read_sequence(&s);
     while (s.at < s.count) {
         struct one_case c;

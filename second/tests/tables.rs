@@ -51,6 +51,56 @@ fn refused() {
 }
 
 #[test]
+fn cradle_display() {
+    let words = table_words(include_str!("../../tables/cradle_display.table"));
+    for line in [
+        "task 2, vertex 2: REFUSED (9): task 0 has more than 64 complete paths, so this was not judged",
+        "    10 ticks of work are due by the deadline, 1 of them its own: 2 ticks too many",
+        "    14 ticks of work are due by the deadline, 2 of them its own: 2 ticks too many",
+        "meets 7, misses 2, unfinished 0, refused 1",
+    ] {
+        assert!(words.lines().any(|found| found == line), "{words}");
+    }
+}
+
+#[test]
+fn cradle_display_last() {
+    let words = table_words(include_str!("../../tables/cradle_display_last.table"));
+    let last = "
+task 3, vertex 1: REFUSED (9): task 2 has more than 64 complete paths, so this was not judged
+task 3, vertex 2: REFUSED (9): task 0 has more than 64 complete paths, so this was not judged
+meets 8, misses 0, unfinished 0, refused 2
+This may NOT go out: not every job type was shown to meet its deadline.
+";
+    assert!(words.ends_with(last), "{words}");
+}
+
+#[test]
+fn cradle_display_sooner() {
+    let words = table_words(include_str!("../../tables/cradle_display_sooner.table"));
+    let last = "\nmeets 10, misses 0, unfinished 0, refused 0\nThis may go out: every job type meets its deadline.\n";
+    assert!(words.ends_with(last), "{words}");
+}
+
+#[test]
+fn unfinished_merged() {
+    let words = table_words(include_str!("../../tables/unfinished_merged.table"));
+    assert!(words.contains("task 5, vertex 0: meets its deadline of 9 ticks (5 groups examined)"));
+}
+
+#[test]
+fn one_job() {
+    let table = include_str!("../../tables/one_job.table");
+    assert_eq!(table, common::text(&[common::task(&[(2, 5)], &[])]));
+}
+
+#[test]
+fn branch() {
+    let words = table_words(include_str!("../../tables/branch.table"));
+    assert!(words.contains("task 1, vertex 0: meets its deadline of 10 ticks (3 groups examined)"));
+}
+
+#[test]
 fn r1() {
     let table = include_str!("../../tables/r1.table");
     assert_eq!(table, common::text(&common::r1(2)));

@@ -1,4 +1,4 @@
--- The higher tasks' numbers of paths, counted one after the other. Assumes nothing.
+-- The higher tasks' numbers of paths, counted one after the other.
 use mathlib.Core.Path.{_≡_, refl, sym, ap, ap₂, _∙_}
 use Prim.Native.Nat.{ℕ, zero, suc, _+_, _*_, _≤_, _<_}
 use native.Mathlib.Omega.{arith}

@@ -1,4 +1,4 @@
--- The stretches of tasks, one after the other: how many cells they take, and where each stands among them. Assumes nothing.
+-- The stretches of tasks, one after the other: how many cells they take, and where each stands among them.
 use mathlib.Core.Path.{_≡_, refl, sym, ap, ap₂, _∙_}
 use Prim.Native.Nat.{ℕ, _+_, _-_, _*_, _≤_, _<_}
 use native.Mathlib.Omega.{arith}
@@ -15,7 +15,7 @@ use Rattle.meaning.specs.Sound.{SoundTask, AllSound}
 use Rattle.meaning.proofs.Lists.{getD-mapped, mem-getD, mem-take, take-map}
 use Rattle.meaning.proofs.PathsOf.{paths-some}
 use Rattle.table.specs.declared.Task.{Task}
-use Rattle.table.specs.Record.{taskOf, HeldTask}
+use Rattle.table.specs.Inner.{taskOf, HeldTask}
 use Rattle.ways.specs.Ways.{mostCounted}
 use Rattle.ranges.specs.Stretch.{stretchCells, stretchOf}
 use Rattle.ranges.proofs.CellBounds.{stretch-length}

@@ -1,4 +1,4 @@
--- A front that is written cell by cell: these, and then what was there. Assumes nothing.
+-- A front that is written cell by cell: these, and then what was there.
 use mathlib.Core.Path.{_≡_, refl, sym, ap, ap₂, _∙_}
 use Prim.Native.Nat.{ℕ, zero, suc, _+_, _≤_, _<_, max}
 use native.Mathlib.Omega.{arith}

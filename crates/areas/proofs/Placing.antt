@@ -1,4 +1,4 @@
--- Cells placed one after the other: a path's, and those of the paths of a miss. Assumes nothing.
+-- Cells placed one after the other: a path's, and those of the paths of a miss.
 use mathlib.Core.Path.{_≡_, refl, sym, ap, ap₂, _∙_}
 use Prim.Native.Nat.{ℕ, _+_, _≤_, _<_}
 use native.Mathlib.Omega.{arith}

@@ -1,4 +1,4 @@
--- The paths of a miss at their places, one task after the other. Assumes nothing.
+-- The paths of a miss at their places, one task after the other.
 use mathlib.Core.Path.{_≡_, refl, sym, ap, subst, _∙_}
 use Prim.Native.Nat.{ℕ, zero, suc, _+_, _≤_, _<_, zero-le}
 use native.Mathlib.Omega.{arith}
@@ -9,18 +9,18 @@ use Rattle.meaning.specs.Bounds.{largestD}
 use Rattle.meaning.specs.Table as Meant
 use Rattle.meaning.specs.Table.{noTask}
 use Rattle.meaning.specs.Paths.{Path, pathsOf}
-use Rattle.meaning.specs.Verdict.{pathCell}
 use Rattle.meaning.specs.Sound.{SoundTask}
 use Rattle.meaning.specs.Areas.{Wrote}
 use Rattle.meaning.proofs.Lists.{mem-getD}
 use Rattle.meaning.proofs.PathsOf.{paths-short}
 use Rattle.kinds.specs.declared.VertexNumber.{VertexNumber}
 use Rattle.table.specs.declared.Task.{Task}
-use Rattle.table.specs.Record.{padded, vertexNumber, taskOf, HeldTask}
+use Rattle.table.specs.Record.{padded}
+use Rattle.table.specs.Inner.{vertexNumber, taskOf, HeldTask}
 use Rattle.table.proofs.Record.{take-padded, length-padded}
 use Rattle.lister.specs.declared.Path as Lister
 use Rattle.lister.specs.Place.{pathRecord}
-use Rattle.areas.specs.Witness.{pathCells, pathAt, pathsAt}
+use Rattle.areas.specs.Witness.{pathCell, pathCells, pathAt, pathsAt}
 
 -- ---- a path's record holds the path
 

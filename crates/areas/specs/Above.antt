@@ -1,4 +1,4 @@
--- The higher tasks by their numbers of paths: where their stretches of the work area begin, and how many rows they have. Assumes nothing.
+-- The higher tasks by their numbers of paths: where their stretches of the work area begin, and how many rows they have.
 use mathlib.Core.Path.{_≡_}
 use Prim.Native.Nat.{ℕ, _+_, _*_, _≤_}
 use mathlib.Core.List.{List, [], _∷_, map}

@@ -1,4 +1,4 @@
--- The stretches of the higher tasks, one after the other. Assumes nothing.
+-- The stretches of the higher tasks, one after the other.
 use Prim.Native.Nat.{ℕ}
 use mathlib.Core.List.{List}
 use Rattle.meaning.specs.Lists.{gather}

@@ -1,13 +1,17 @@
--- The cells of a path by value, and the paths at places of the higher tasks' lists. Assumes nothing.
+-- The cells of a path by value, and the paths at places of the higher tasks' lists.
 use Prim.Native.Nat.{ℕ}
 use mathlib.Core.List.{List, [], _∷_, map}
-use lib.ListN.{take, getD}
+use lib.ListN.{length, take, getD}
 use Rattle.meaning.specs.Table.{Task}
 use Rattle.meaning.specs.Paths.{Path, pathsOf}
 use Rattle.kinds.specs.declared.VertexNumber.{VertexNumber}
 use Rattle.lister.specs.declared.Path as Lister
 
--- its length and its vertices
+-- the path's length and vertices
+abbrev pub pathCell : Path → List ℕ
+pathCell w = length w ∷ w
+
+-- those of a path by value
 abbrev pub pathCells : Lister.Path → List ℕ
 pathCells p = p .len ∷ map (λ (v : VertexNumber). v .0) (take (p .len) (p .vertices))
 

@@ -7,7 +7,7 @@ ghost use lib.ListN.{length};
 ghost use lib.Seq.{sets};
 ghost use Rattle.meaning.specs.Bounds.{mostPaths, largestD};
 ghost use Rattle.meaning.specs.Paths.{pathsOf};
-ghost use Rattle.table.specs.Record.{taskOf, HeldTask};
+ghost use Rattle.table.specs.Inner.{taskOf, HeldTask};
 ghost use Rattle.ranges.specs.Stretch.{stretchCells, stretchOf};
 
 // The stretch of a task with so many paths, which begins at `from`.

@@ -7,11 +7,10 @@ ghost use mathlib.Core.Path.{_≡_};
 ghost use Prim.Native.Nat.{_+_, _≤_, _<_};
 ghost use lib.ListN.{length};
 ghost use Rattle.meaning.specs.Bounds.{largestD};
-ghost use Rattle.meaning.specs.Verdict.{pathCell};
 ghost use Rattle.meaning.specs.Areas.{Wrote};
-ghost use Rattle.table.specs.Record.{taskOf, HeldTask};
+ghost use Rattle.table.specs.Inner.{taskOf, HeldTask};
 ghost use Rattle.ways.specs.Ways.{mostCounted};
-ghost use Rattle.areas.specs.Witness.{pathCells, pathAt};
+ghost use Rattle.areas.specs.Witness.{pathCell, pathCells, pathAt};
 
 // One path's cells, from a place on; gives the place behind them.
 fn write_path(witness: &mut [u16], at: usize, path: Path) -> usize

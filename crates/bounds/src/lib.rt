@@ -1,4 +1,4 @@
-// Every number that document 01 sets, once for the code, and what follows from them; `meaning`'s Bounds has them once for the definitions. The proofs
+// The bounds that document 01 sets, once for the code, and what follows from them; `meaning`'s Bounds has them once for the definitions. The proofs
 // tie the two: an array or a test by another number meets no contract.
 
 // ---- a table

@@ -1,4 +1,4 @@
--- The tasks of a held table are ready to be listed, and the last one's vertex 0 gives a horizon. Assumes nothing.
+-- The tasks of a held table are ready to be listed, and the last one's vertex 0 gives a horizon.
 use mathlib.Core.Path.{ap, sym, subst}
 use Prim.Native.Nat.{ℕ, _≤_, _<_}
 use native.Mathlib.Omega.{arith}
@@ -10,7 +10,7 @@ use Rattle.meaning.specs.Paths.{pathsOf}
 use Rattle.meaning.proofs.PathsOf.{paths-some}
 use Rattle.table.specs.declared.Vertex.{Vertex}
 use Rattle.table.specs.declared.Table.{Table}
-use Rattle.table.specs.Record.{taskOf, tableOf, Held, HeldTask}
+use Rattle.table.specs.Inner.{taskOf, tableOf, Held, HeldTask}
 use Rattle.table.proofs.Records.{held-count, held-sound, held-one, held-is}
 use Rattle.table.proofs.Vertices.{ownTask, ownVertex, own-size, job-is, job-sound}
 

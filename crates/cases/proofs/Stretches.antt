@@ -1,4 +1,4 @@
--- A task's stretch has room in the area. Assumes nothing.
+-- A task's stretch has room in the area.
 use mathlib.Core.Path.{_≡_}
 use Prim.Native.Nat.{ℕ, _≤_}
 use native.Mathlib.Omega.{arith}

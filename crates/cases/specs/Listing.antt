@@ -1,4 +1,4 @@
--- What is known when a task's loads are listed. Assumes nothing.
+-- What is known when a task's loads are listed.
 use mathlib.Core.Path.{_≡_}
 use Prim.Native.Nat.{ℕ, _*_, _≤_, _<_}
 use mathlib.Core.List.{List}
@@ -6,7 +6,7 @@ use lib.ListN.{length}
 use Rattle.meaning.specs.Bounds.{largestD, mostPaths}
 use Rattle.meaning.specs.Paths.{pathsOf}
 use Rattle.table.specs.declared.Task.{Task}
-use Rattle.table.specs.Record.{taskOf, HeldTask}
+use Rattle.table.specs.Inner.{taskOf, HeldTask}
 use Rattle.meaning.specs.Areas.{rowsFor}
 
 -- the cells of a task's rows, at most

@@ -10,7 +10,7 @@ use reader::read;
 use table::Table;
 ghost use Prim.Native.Nat.{_≤_};
 ghost use lib.ListN.{length};
-ghost use Rattle.table.specs.Record.{Held};
+ghost use Rattle.table.specs.Inner.{Held};
 ghost use Rattle.cases.specs.Listing.{stretchRoom};
 
 fn list_table(work: &mut [u32], t: Table)

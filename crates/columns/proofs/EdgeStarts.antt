@@ -1,4 +1,4 @@
--- Where each vertex's edges start, found vertex by vertex. Assumes nothing.
+-- Where each vertex's edges start, found vertex by vertex.
 use mathlib.Core.Path.{_≡_, refl, sym, ap, subst, _∙_}
 use Prim.Native.Nat.{ℕ, _+_, _≤_, _<_}
 use native.Mathlib.Omega.{arith}

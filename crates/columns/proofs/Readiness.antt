@@ -1,4 +1,4 @@
--- The record of a sound task is ready to be listed. Assumes nothing.
+-- The record of a sound task is ready to be listed.
 use mathlib.Core.Path.{_≡_, sym, ap, subst, _∙_}
 use mathlib.Core.Logic.{inl, inr}
 use Prim.Native.Nat.{ℕ, zero, suc, _≤_, _<_}
@@ -12,7 +12,8 @@ use Rattle.meaning.specs.Table as Meant
 use Rattle.meaning.specs.Sound.{SoundTask, EdgeBefore}
 use Rattle.meaning.proofs.Lists.{mem-getD}
 use Rattle.table.specs.declared.Task.{Task}
-use Rattle.table.specs.Record.{noVertex, noEdge, vertexRecord, edgeRecord, taskRecord, taskOf, HeldTask}
+use Rattle.table.specs.Record.{noVertex, noEdge, vertexRecord, edgeRecord, taskRecord}
+use Rattle.table.specs.Inner.{taskOf, HeldTask}
 use Rattle.table.proofs.Record.{getD-padded, length-padded}
 use Rattle.columns.specs.Columns.{edgeCell, Ready}
 use Rattle.columns.proofs.TaskColumns.{noMeantEdge}

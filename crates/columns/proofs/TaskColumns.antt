@@ -1,4 +1,4 @@
--- The columns say the task that the record stands for. Assumes nothing.
+-- The columns say the task that the record stands for.
 use mathlib.Core.Path.{_≡_, refl, sym, ap, ap₂, subst, _∙_}
 use Prim.Native.Nat.{ℕ, zero, suc, _+_, _-_, _≤_, _<_}
 use native.Mathlib.Omega.{arith}
@@ -17,7 +17,8 @@ use Rattle.meaning.proofs.Lists.{countFrom-mem}
 use Rattle.table.specs.declared.Vertex.{Vertex}
 use Rattle.table.specs.declared.Edge.{Edge}
 use Rattle.table.specs.declared.Task.{Task}
-use Rattle.table.specs.Record.{noVertex, noEdge, vertexOf, edgeOf, taskOf}
+use Rattle.table.specs.Record.{noVertex, noEdge}
+use Rattle.table.specs.Inner.{vertexOf, edgeOf, taskOf}
 use Rattle.columns.specs.Columns.{executionIn, edgeCell, Ready, edgesOf, SoundColumns, edgeAt, ColumnsOf, Sorted, Cuts}
 use Rattle.meaning.proofs.Stores.{col-more, sets-after}
 

@@ -1,4 +1,4 @@
--- The record of a task that the lister asks for, and its columns of numbers. Assumes nothing.
+-- The record of a task that the lister asks for, and its columns of numbers.
 use mathlib.Core.Path.{_≡_}
 use Prim.Native.Nat.{ℕ, _+_, _-_, _≤_, _<_}
 use mathlib.Core.List.{List, map}

@@ -13,7 +13,7 @@ ghost use mathlib.Core.List.{map};
 ghost use lib.ListN.{length, take, replicate};
 ghost use lib.Seq.{sets};
 ghost use Rattle.meaning.specs.Bounds.{mostVertices, mostEdges};
-ghost use Rattle.table.specs.Record.{taskOf, HeldTask};
+ghost use Rattle.table.specs.Inner.{taskOf, HeldTask};
 ghost use Rattle.columns.specs.Columns.{EdgesEnd, Sorted, Cuts, executionIn, ColumnsOf};
 
 // The edges out of v are those from start[v] up to start[v + 1]; each leads to `to` and has separation `p`.

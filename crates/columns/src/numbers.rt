@@ -10,12 +10,6 @@ pub fn index(x: u8) -> usize
     x as usize
 }
 
-pub fn separation(x: u16) -> usize
-    ensures { λ r. ⌜ (r ≡ x) × (r ≤ widest) ⌝ }
-{
-    x as usize
-}
-
 pub fn execution(x: u16) -> u32
     ensures { λ r. ⌜ (r ≡ x) × (r ≤ widest) ⌝ }
 {

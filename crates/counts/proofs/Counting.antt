@@ -1,4 +1,4 @@
--- Counting verdicts one after the other. Assumes nothing.
+-- Counting verdicts one after the other.
 use mathlib.Core.Path.{_≡_, sym, ap, _∙_}
 use Prim.Native.Nat.{ℕ, _+_, _<_}
 use native.Mathlib.Omega.{arith}
@@ -9,15 +9,16 @@ use lib.ListN.{length, getD}
 use lib.Dec.{eqb}
 use Rattle.meaning.specs.Lists.{pick}
 use Rattle.meaning.specs.Verdict as Said
-use Rattle.meaning.specs.Verdict.{meets, misses, unfinished, refused, numbers}
+use Rattle.meaning.specs.Verdict.{meets, misses, unfinished, refused, numbers, kindOf}
 use Rattle.meaning.specs.Whole as Meant
-use Rattle.meaning.specs.Whole.{kindOf, countsOf}
+use Rattle.meaning.specs.Whole.{countsOf}
 use Rattle.meaning.proofs.Counts.{one-kind}
 use Rattle.kinds.specs.declared.Verdict.{Verdict}
 use Rattle.kinds.specs.declared.Verdict.the-variants.{Meets, Misses, Unfinished, Refused}
 use Rattle.kinds.specs.Numbers.{verdictNumbers}
 use Rattle.counts.specs.declared.Counts.{Counts}
-use Rattle.counts.specs.Counts.{meantCounts, noCounts, totalOf, total, oneMore}
+use Rattle.counts.specs.Counts.{meantCounts, totalOf}
+use Rattle.counts.specs.Inner.{total, noCounts, oneMore}
 
 -- ---- sums of counts
 

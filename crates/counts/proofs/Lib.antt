@@ -1,2 +1,3 @@
 pub mod Counting
+pub mod GoesOut
 pub mod NextPlace

@@ -1,4 +1,4 @@
--- The next place, and that a place's numbers settle it. Assumes nothing.
+-- The next place, and that a place's numbers settle it.
 use mathlib.Core.Path.{_≡_, ap}
 use Prim.Native.Nat.{ℕ, _+_, _≤_, _<_}
 use borrow.Author.Tests.{lt-ltb, le-ltb}

@@ -1,26 +1,11 @@
--- How many meet, miss, are unfinished and are refused. Assumes nothing.
+-- How many meet, miss, are unfinished and are refused.
 use Prim.Native.Nat.{ℕ, _+_}
 use Rattle.meaning.specs.Whole as Meant
-use Rattle.kinds.specs.declared.Verdict.{Verdict}
-use Rattle.kinds.specs.declared.Verdict.the-variants.{Meets, Misses, Unfinished, Refused}
 use Rattle.counts.specs.declared.Counts.{Counts}
 
 abbrev pub meantCounts : Counts → Meant.Counts
 meantCounts c = record { meeting = c .meeting; missing = c .missing; unfinishing = c .unfinishing; refusing = c .refusing }
 
-abbrev pub noCounts : Counts
-noCounts = record { meeting = 0; missing = 0; unfinishing = 0; refusing = 0 }
-
 -- all four together
 abbrev pub totalOf : Meant.Counts → ℕ
 totalOf n = n .meeting + n .missing + n .unfinishing + n .refusing
-
-abbrev pub total : Counts → ℕ
-total c = totalOf (meantCounts c)
-
--- one more of the verdict's kind
-abbrev pub oneMore : Counts → Verdict → Counts
-oneMore c (Meets count) = record { meeting = c .meeting + 1; missing = c .missing; unfinishing = c .unfinishing; refusing = c .refusing }
-oneMore c (Misses count cells) = record { meeting = c .meeting; missing = c .missing + 1; unfinishing = c .unfinishing; refusing = c .refusing }
-oneMore c (Unfinished budget) = record { meeting = c .meeting; missing = c .missing; unfinishing = c .unfinishing + 1; refusing = c .refusing }
-oneMore c (Refused at) = record { meeting = c .meeting; missing = c .missing; unfinishing = c .unfinishing; refusing = c .refusing + 1 }

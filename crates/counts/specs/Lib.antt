@@ -1,2 +1,4 @@
 pub mod Counts
 pub mod Place
+pub mod GoesOut
+pub mod Inner

@@ -1,4 +1,4 @@
--- The vertices, in rising order of task and then vertex. Assumes nothing.
+-- The vertices, in rising order of task and then vertex.
 use Prim.Native.Nat.{ℕ, _+_, _<_}
 use lib.Dec.{ltb}
 use Rattle.meaning.specs.Lists.{pick}

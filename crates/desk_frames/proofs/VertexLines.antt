@@ -1,4 +1,4 @@
--- A vertex's lines: its verdict's, and after a miss those of the paths. Assumes nothing.
+-- A vertex's lines: its verdict's, and after a miss those of the paths.
 use mathlib.Core.Path.{_≡_, refl, sym, ap, subst, _∙_}
 use Prim.Native.Nat.{ℕ, _+_, _≤_}
 use native.Mathlib.Omega.{arith}

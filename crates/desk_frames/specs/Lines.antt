@@ -1,7 +1,8 @@
--- The paths that cells hold, and the lines of a vertex. Assumes nothing.
-use Prim.Native.Nat.{ℕ, zero, suc, _≤_, _<_}
+-- The paths that cells hold, and the lines of a vertex: what the functions here promise the judge. No promise of a call rests on it.
+use Prim.Native.Nat.{ℕ, zero, suc, _+_, _≤_, _<_}
 use mathlib.Core.List.{List, [], _∷_, _++_}
 use lib.ListN.{length, take, drop, getD}
+use Rattle.meaning.specs.Bounds.{lineLength}
 use Rattle.meaning.specs.Paths.{Path}
 use Rattle.meaning.specs.Lists.{gather}
 use Rattle.meaning.specs.Desk.{line, verdictFrame, pathFrames}
@@ -11,6 +12,16 @@ use Rattle.kinds.specs.declared.VertexNumber.{VertexNumber}
 use Rattle.kinds.specs.declared.Verdict.{Verdict}
 use Rattle.kinds.specs.declared.Verdict.the-variants.{Meets, Misses, Unfinished, Refused}
 use Rattle.kinds.specs.Numbers.{verdictNumbers}
+
+-- ---- how long lines are
+
+-- 1e, number, line in 2 bytes
+abbrev pub refusalLine : ℕ
+refusalLine = lineLength 4
+
+-- 11, task, length and n vertices
+abbrev pub pathLine : ℕ → ℕ
+pathLine n = lineLength (3 + n)
 
 -- ---- cells that hold paths, each with its length before it
 

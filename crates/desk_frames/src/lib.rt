@@ -13,10 +13,10 @@ use line::put_line;
 use path::path_lines;
 ghost use Prim.Native.Nat.{_+_, _≤_};
 ghost use lib.ListN.{length};
-ghost use Rattle.meaning.specs.Bounds.{verdictLine, countsLine, refusalLine};
+ghost use Rattle.meaning.specs.Bounds.{verdictLine, countsLine};
 ghost use Rattle.meaning.specs.Desk.{line, countsFrame, refusalFrame};
 ghost use Rattle.kinds.specs.Numbers.{refusalNumber};
-ghost use Rattle.desk_frames.specs.Lines.{WholeShown, placeOf, shownVerdict, shownLines};
+ghost use Rattle.desk_frames.specs.Lines.{refusalLine, WholeShown, placeOf, shownVerdict, shownLines};
 ghost use Rattle.meaning.specs.Areas.{Wrote};
 
 // A vertex's verdict, and after a miss one path a higher task, out of the witness area's cells.

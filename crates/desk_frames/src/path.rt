@@ -5,9 +5,8 @@ ghost use mathlib.Core.Path.{_≡_};
 ghost use Prim.Native.Nat.{_+_, _*_, _≤_};
 ghost use lib.ListN.{length};
 ghost use Rattle.meaning.specs.Lists.{gather};
-ghost use Rattle.meaning.specs.Bounds.{pathLine};
 ghost use Rattle.meaning.specs.Desk.{digits, line, pathFrame};
-ghost use Rattle.desk_frames.specs.Lines.{FitsByte, Bytes, WholePaths, cellPaths, pathLines};
+ghost use Rattle.desk_frames.specs.Lines.{pathLine, FitsByte, Bytes, WholePaths, cellPaths, pathLines};
 ghost use Rattle.meaning.specs.Areas.{Wrote};
 
 fn wide(x: u16) -> usize

@@ -1,4 +1,4 @@
--- The digits of a line, counted pair by pair from a place in the text. Assumes nothing.
+-- The digits of a line, counted pair by pair from a place in the text.
 use mathlib.Core.Path.{_≡_, refl, sym, ap, _∙_}
 use Prim.Native.Nat.{ℕ, suc, _+_, _-_, _≤_, _<_}
 use native.Mathlib.Omega.{arith}

@@ -1,4 +1,4 @@
--- A byte is a digit or foreign, by its worth as by the definition. Assumes nothing.
+-- A byte is a digit or foreign, by its worth as by the definition.
 use mathlib.Core.Path.{_≡_, refl, sym, subst, _∙_}
 use Prim.Native.Nat.{ℕ, zero, suc, _+_, _-_, _*_, _≤_, _<_}
 use native.Mathlib.Omega.{arith}

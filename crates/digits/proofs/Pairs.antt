@@ -1,4 +1,4 @@
--- The bytes of a line by their places in the text. Assumes nothing.
+-- The bytes of a line by their places in the text.
 use mathlib.Core.Path.{_≡_, refl, sym, ap, subst, _∙_}
 use Prim.Native.Nat.{ℕ, zero, suc, _+_, _*_, _<_}
 use native.Mathlib.Omega.{arith}

@@ -1,14 +1,15 @@
--- A right line is pairs of digits and a line feed: its bytes, and the lines behind it, as the definitions cut them. Assumes nothing.
+-- A right line is pairs of digits and a line feed: its bytes, and the lines behind it, as the definitions cut them.
 use mathlib.Core.Path.{_≡_, refl, sym, ap, subst, _∙_}
 use Prim.Native.Nat.{ℕ, _+_, _*_, _<_}
 use native.Mathlib.Omega.{arith}
 use mathlib.Core.Bool.{Bool, true, false}
 use mathlib.Core.Option.{Option, none, some}
 use mathlib.Core.List.{List, [], _∷_}
+use lib.ListN.{length}
 use lib.Dec.{ltb, eqb}
-use borrow.Author.Tests.{ltb-true, ltb-false, eqb-true}
+use borrow.Author.Tests.{ltb-true, ltb-false, lt-ltb, eqb-true}
 use Rattle.meaning.specs.Lists.{pick}
-use Rattle.meaning.specs.Text.{Line, lineFeed, intoFirst, linesOf, digitOf, byteWith, hexBytes, nonEmpty, frameOf}
+use Rattle.meaning.specs.Text.{Line, lineFeed, intoFirst, linesOf, digitOf, byteWith, hexBytes, frameOf}
 use Rattle.digits.specs.Digits.{worthOf, frameAt}
 use Rattle.digits.proofs.Digits.{not-feed, digit-some, digit-none}
 
@@ -103,11 +104,28 @@ some-lines a t = go (eqb a lineFeed) refl
     go true e = simp e
     go false e = simp (e, into-head)
 
+-- "at least two" digits
+abbrev pub nonEmpty : Option (List ℕ) → Option (List ℕ)
+nonEmpty none = none
+nonEmpty (some []) = none
+nonEmpty (some (b ∷ bs)) = some (b ∷ bs)
+
+byte-some : (a b : Option ℕ) (o : Option (List ℕ)) → byteWith a b o ≡ nonEmpty (byteWith a b o)
+byte-some none b o = refl
+byte-some (some h) none o = refl
+byte-some (some h) (some l) none = refl
+byte-some (some h) (some l) (some bs) = refl
+
+hex-some : (bs : List ℕ) → pick (ltb 1 (length bs)) (hexBytes bs) none ≡ nonEmpty (hexBytes bs)
+hex-some [] = refl
+hex-some (h ∷ []) = refl
+hex-some (h ∷ l ∷ ds) = rw (lt-ltb 1 (length (h ∷ l ∷ ds)) (omega arith)) (byte-some (digitOf h) (digitOf l) (hexBytes ds))
+
 frame-fed : (l : Line) → frameOf l ≡ nonEmpty (hexFed l)
 frame-fed l = go (l .fed) refl
   where
     go : (x : Bool) → l .fed ≡ x → frameOf l ≡ nonEmpty (hexFed l)
-    go true e = simp e
+    go true e = simp e (hex-some (l .bytes))
     go false e = simp e
 
 pub tail-right : {t f r : List ℕ} → Spelled t f r → tailOf (linesOf t) ≡ linesOf r

@@ -1,4 +1,4 @@
--- Digits by their worth, and the numbers that stand at a place of a text. Assumes nothing.
+-- Digits by their worth, and the numbers that stand at a place of a text.
 use mathlib.Core.Path.{_≡_}
 use Prim.Native.Nat.{ℕ, _+_, _-_, _*_, _≤_, _<_}
 use mathlib.Core.Option.{Option, none, some}

@@ -1,4 +1,4 @@
--- What the reader's functions of one line return, from what their calls and their tests gave. Assumes nothing.
+-- What the reader's functions of one line return, from what their calls and their tests gave.
 use mathlib.Core.Path.{_≡_, sym, _∙_}
 use Prim.Native.Nat.{ℕ, _≤_, _<_}
 use mathlib.Core.Bool.{Bool, true, false, not}
@@ -9,7 +9,8 @@ use Rattle.meaning.specs.Bounds.{mostTasks}
 use Rattle.kinds.specs.declared.Refusal.{Refusal}
 use Rattle.kinds.specs.declared.Refusal.the-variants.{BadLine, WrongFrame, OutOfBounds, DeadlineOverSeparation, EdgeNotAfter, NoEnd}
 use Rattle.table.specs.declared.Vertex.{Vertex}
-use Rattle.table.specs.Record.{vertexCells, edgeCells, noVertex}
+use Rattle.table.specs.Record.{noVertex}
+use Rattle.table.specs.Inner.{vertexCells, edgeCells}
 use Rattle.frames.specs.declared.VertexLine.the-variants.{VertexTaken, VertexRefused}
 use Rattle.frames.specs.declared.EdgeLine.the-variants.{EdgeTaken, EdgeRefused}
 use Rattle.frames.specs.declared.TaskOrEndLine.{TaskOrEndLine}

@@ -1,4 +1,4 @@
--- An edge's line is read as it means. Assumes nothing.
+-- An edge's line is read as it means.
 use mathlib.Core.Path.{_≡_, refl, ap, subst, _∙_}
 use Prim.Native.Nat.{ℕ, suc, _-_, _≤_, _<_}
 use native.Mathlib.Omega.{arith}
@@ -14,11 +14,13 @@ use Rattle.kinds.specs.declared.Refusal.the-variants.{WrongFrame, OutOfBounds}
 use Rattle.kinds.specs.Numbers.{refusalNumber}
 use Rattle.table.specs.declared.Vertex.{Vertex}
 use Rattle.table.specs.declared.Edge.{Edge}
-use Rattle.table.specs.Record.{edgeCells, noVertex, vertexRecord, verticesRecord, edgeOf}
+use Rattle.table.specs.Record.{noVertex, vertexRecord}
+use Rattle.table.specs.Inner.{edgeCells, verticesRecord, edgeOf}
 use Rattle.frames.specs.declared.EdgeLine.{EdgeLine}
 use Rattle.frames.specs.declared.EdgeLine.the-variants.{EdgeTaken, EdgeRefused}
 use Rattle.digits.specs.Digits.{worthOf, pairAt}
 use Rattle.meaning.proofs.Lists.{getD-mapped}
+use Rattle.meaning.proofs.Readable.{readStep}
 use Rattle.table.proofs.Record.{getD-padded}
 use Rattle.rules.specs.Rules.{edgeIn, edgeSpaced, edgeAfter}
 use Rattle.frames.specs.Frames.{partDigits, partBytes, startsWith, edgeFrom, edgeTo, edgeP, edgeLine}
@@ -27,7 +29,7 @@ use Rattle.digits.proofs.Pairs.{spelled-of}
 use Rattle.digits.proofs.Digits.{foreign-above}
 use Rattle.rules.proofs.Order.{Follows}
 use Rattle.rules.proofs.Within.{edge-bounds}
-use Rattle.frames.proofs.LineRead.{readStep, right-read}
+use Rattle.frames.proofs.LineRead.{right-read}
 use Rattle.frames.proofs.Expected.{same-pick, fault-law, Starts, starts-says, framed-bytes, not-frame, fails}
 
 -- d of a vertex, in its cell

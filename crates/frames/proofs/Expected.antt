@@ -1,4 +1,4 @@
--- A line that is expected: what its first bytes and its line feed say of its frame, and how it is refused. Assumes nothing.
+-- A line that is expected: what its first bytes and its line feed say of its frame, and how it is refused.
 use mathlib.Core.Path.{_≡_, refl, sym, ap, subst, _∙_}
 use Prim.Native.Nat.{ℕ, _+_, _*_, _<_}
 use native.Mathlib.Omega.{arith}
@@ -9,17 +9,18 @@ use lib.ListN.{length, getD}
 use lib.Dec.{leb, eqb}
 use borrow.Author.Tests.{leb-false, eqb-true, lt-leb, eq-eqb, ne-eqb}
 use Rattle.meaning.specs.Lists.{pick}
-use Rattle.meaning.specs.Text.{lineFeed, linesOf, nonEmpty, Begun, Step, wrong, wantedBy, framed, isFrame, unreadable, readFrom}
+use Rattle.meaning.specs.Text.{lineFeed, linesOf, Begun, Step, wrong, framed, isFrame, unreadable, readFrom}
+use Rattle.meaning.proofs.Readable.{readStep}
 use Rattle.kinds.specs.declared.Refusal.{Refusal}
 use Rattle.kinds.specs.declared.Refusal.the-variants.{WrongFrame}
 use Rattle.kinds.specs.Numbers.{refusalNumber}
 use Rattle.digits.specs.Digits.{digitCount}
 use Rattle.frames.specs.Frames.{faultOf, startsWith}
 use Rattle.digits.proofs.Digits.{is-low, worth-low}
-use Rattle.digits.proofs.Spelled.{Spelled, pair, frame-right, First, right, broken, first}
+use Rattle.digits.proofs.Spelled.{nonEmpty, Spelled, pair, frame-right, First, right, broken, first}
 use Rattle.digits.proofs.Pairs.{pairsAt, bytes-of}
 use Rattle.rules.proofs.Within.{differ, both-true}
-use Rattle.frames.proofs.LineRead.{readStep, right-read, broken-read}
+use Rattle.frames.proofs.LineRead.{right-read, broken-read}
 
 -- ---- tests
 
@@ -34,7 +35,7 @@ abbrev pub rightFault : List ℕ → ℕ → Refusal → Refusal
 rightFault f n w = pick (eqb (digitCount 0 (some f)) n) w WrongFrame
 
 pub fault-law : (s : Begun) (n N : ℕ) (w : Refusal) (t : List ℕ)
-    → ((b : ℕ) (f r : List ℕ) → Spelled t (b ∷ f) r → framed s (wantedBy (s .wantV) (s .wantE)) (b ∷ f) ≡ wrong (refusalNumber (rightFault (b ∷ f) N w)))
+    → ((b : ℕ) (f r : List ℕ) → Spelled t (b ∷ f) r → framed s (s .wantV) (s .wantE) (b ∷ f) ≡ wrong (refusalNumber (rightFault (b ∷ f) N w)))
     → readFrom s n (linesOf t) ≡ unreadable (refusalNumber (faultOf t N w)) n
 unfolding faultOf
 fault-law s n N w [] h = refl

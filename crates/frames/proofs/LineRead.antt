@@ -1,24 +1,12 @@
--- One line read, as document 01 reads it. Assumes nothing.
-use mathlib.Core.Path.{_≡_, refl, ap, _∙_}
-use Prim.Native.Nat.{ℕ, suc, _+_, _*_}
+-- One line read, as document 01 reads it.
+use mathlib.Core.Path.{_≡_, ap, _∙_}
+use Prim.Native.Nat.{ℕ, _+_, _*_}
 use mathlib.Core.Option.{Option, none}
 use mathlib.Core.List.{List, _∷_}
-use Rattle.meaning.specs.Text.{Line, linesOf, nonEmpty, frameOf, Begun, Step, on, over, wrong, wantedBy, framed, stepAt, Reading, unreadable, atEnd, readFrom}
+use Rattle.meaning.specs.Text.{Line, linesOf, Begun, framed, stepAt, unreadable, readFrom}
+use Rattle.meaning.proofs.Readable.{readStep, step-read}
 use Rattle.digits.specs.Digits.{worthOf, frameAt}
-use Rattle.digits.proofs.Spelled.{Spelled, pair, frame-right, headOf, tailOf, some-lines, first-frame, tail-right}
-
-abbrev pub readStep : Step → ℕ → List Line → Reading
-readStep (on s) n ls = readFrom s (suc n) ls
-readStep (over ts) n ls = atEnd ts (suc n) ls
-readStep (wrong k) n ls = unreadable k n
-
-step-read : (s : Begun) (n : ℕ) (l : Line) (ls : List Line) → readFrom s n (l ∷ ls) ≡ readStep (stepAt s (frameOf l)) n ls
-step-read s n l ls = go (stepAt s (frameOf l)) refl
-  where
-    go : (x : Step) → stepAt s (frameOf l) ≡ x → readFrom s n (l ∷ ls) ≡ readStep (stepAt s (frameOf l)) n ls
-    go (on z) e = rw (e, readFrom)
-    go (over z) e = rw (e, readFrom)
-    go (wrong z) e = rw (e, readFrom)
+use Rattle.digits.proofs.Spelled.{nonEmpty, Spelled, pair, frame-right, headOf, tailOf, some-lines, first-frame, tail-right}
 
 line-read : (s : Begun) (n a : ℕ) (t : List ℕ)
     → readFrom s n (linesOf (a ∷ t)) ≡ readStep (stepAt s (nonEmpty (frameAt (a ∷ t)))) n (tailOf (linesOf (a ∷ t)))
@@ -30,11 +18,11 @@ line-read s n a t =
 
 -- a right line of at least one byte
 pub right-read : (s : Begun) (n : ℕ) {t f r : List ℕ} {b : ℕ} → Spelled t (b ∷ f) r
-    → readFrom s n (linesOf t) ≡ readStep (framed s (wantedBy (s .wantV) (s .wantE)) (b ∷ f)) n (linesOf r)
+    → readFrom s n (linesOf t) ≡ readStep (framed s (s .wantV) (s .wantE) (b ∷ f)) n (linesOf r)
 right-read s n (pair {h} {l} {t} {f} {r} p q z) =
     line-read s n h (l ∷ t)
     ∙ ap (λ (o : Option (List ℕ)). readStep (stepAt s (nonEmpty o)) n (tailOf (linesOf (h ∷ l ∷ t)))) (frame-right (pair p q z))
-    ∙ ap (λ (ls : List Line). readStep (framed s (wantedBy (s .wantV) (s .wantE)) ((worthOf h * 16 + worthOf l) ∷ f)) n ls) (tail-right (pair p q z))
+    ∙ ap (λ (ls : List Line). readStep (framed s (s .wantV) (s .wantE) ((worthOf h * 16 + worthOf l) ∷ f)) n ls) (tail-right (pair p q z))
 
 pub broken-read : (s : Begun) (n a : ℕ) (t : List ℕ) → nonEmpty (frameAt (a ∷ t)) ≡ none → readFrom s n (linesOf (a ∷ t)) ≡ unreadable 1 n
 broken-read s n a t e = line-read s n a t ∙ ap (λ (o : Option (List ℕ)). readStep (stepAt s o) n (tailOf (linesOf (a ∷ t)))) e

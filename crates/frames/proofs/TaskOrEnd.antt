@@ -1,4 +1,4 @@
--- The line after whole tasks, another task's or the end's, is read as it means. Assumes nothing.
+-- The line after whole tasks, another task's or the end's, is read as it means.
 use mathlib.Core.Path.{_≡_, refl, sym, ap, _∙_}
 use Prim.Native.Nat.{ℕ, suc, _<_}
 use native.Mathlib.Omega.{arith}
@@ -12,6 +12,7 @@ use Rattle.meaning.specs.Bounds.{mostTasks}
 use Rattle.meaning.specs.Table as Meant
 use Rattle.meaning.specs.Text.{linesOf, Begun, begun, over, wrong, isFrame, closed, taskFrame, Reading, unreadable, atEnd, readFrom}
 use Rattle.meaning.proofs.Lists.{and-false}
+use Rattle.meaning.proofs.Readable.{readStep}
 use Rattle.kinds.specs.declared.Refusal.{Refusal}
 use Rattle.kinds.specs.declared.Refusal.the-variants.{WrongFrame, OutOfBounds}
 use Rattle.kinds.specs.Numbers.{refusalNumber}
@@ -24,7 +25,7 @@ use Rattle.digits.proofs.Spelled.{Spelled}
 use Rattle.digits.proofs.Pairs.{pairsAt, spelled-of}
 use Rattle.digits.proofs.Digits.{foreign-above}
 use Rattle.rules.proofs.Within.{differ, TaskBounds, task-bounds}
-use Rattle.frames.proofs.LineRead.{readStep, right-read}
+use Rattle.frames.proofs.LineRead.{right-read}
 use Rattle.frames.proofs.Expected.{same-pick, fault-law, Starts, starts-says, framed-bytes, kind-of, not-frame, fails}
 
 and-true : (x : Bool) → x && true ≡ x

@@ -1,4 +1,4 @@
--- A vertex's line is read as it means. Assumes nothing.
+-- A vertex's line is read as it means.
 use mathlib.Core.Path.{_≡_, refl, _∙_}
 use Prim.Native.Nat.{ℕ, suc, _-_, _<_}
 use native.Mathlib.Omega.{arith}
@@ -11,7 +11,7 @@ use Rattle.meaning.specs.Text.{linesOf, Begun, begun, wrong, isFrame, word, ver
 use Rattle.kinds.specs.declared.Refusal.the-variants.{WrongFrame, OutOfBounds}
 use Rattle.kinds.specs.Numbers.{refusalNumber}
 use Rattle.table.specs.declared.Vertex.{Vertex}
-use Rattle.table.specs.Record.{vertexCells, vertexOf}
+use Rattle.table.specs.Inner.{vertexCells, vertexOf}
 use Rattle.frames.specs.declared.VertexLine.{VertexLine}
 use Rattle.frames.specs.declared.VertexLine.the-variants.{VertexTaken, VertexRefused}
 use Rattle.digits.specs.Digits.{worthOf, pairAt}

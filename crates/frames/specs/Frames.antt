@@ -1,4 +1,4 @@
--- Each line by the frame that must stand there: only where that fails is the line looked through for the reason. Assumes nothing.
+-- Each line by the frame that must stand there: only where that fails is the line looked through for the reason.
 use Prim.Native.Nat.{ℕ, _+_}
 use mathlib.Core.Bool.{Bool, false}
 use mathlib.Core.List.{List}
@@ -10,7 +10,8 @@ use Rattle.meaning.specs.Text.{lineFeed}
 use Rattle.kinds.specs.declared.Refusal.{Refusal}
 use Rattle.kinds.specs.declared.Refusal.the-variants.{BadLine, WrongFrame, OutOfBounds, DeadlineOverSeparation, EdgeNotAfter, NoEnd}
 use Rattle.table.specs.declared.Vertex.{Vertex}
-use Rattle.table.specs.Record.{vertexCells, edgeCells, noVertex}
+use Rattle.table.specs.Record.{noVertex}
+use Rattle.table.specs.Inner.{vertexCells, edgeCells}
 use Rattle.frames.specs.declared.VertexLine.{VertexLine}
 use Rattle.frames.specs.declared.VertexLine.the-variants.{VertexTaken, VertexRefused}
 use Rattle.frames.specs.declared.EdgeLine.{EdgeLine}

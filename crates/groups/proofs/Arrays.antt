@@ -1,4 +1,4 @@
--- The arrays that hold a group: reading a range, writing one, and the cells that do not count. Assumes nothing.
+-- The arrays that hold a group: reading a range, writing one, and the cells that do not count.
 use mathlib.Core.Path.{_≡_, refl, sym, ap, ap₂, subst, _∙_}
 use Prim.Native.Nat.{ℕ, zero, suc, _+_, _≤_, _<_}
 use native.Mathlib.Omega.{arith}

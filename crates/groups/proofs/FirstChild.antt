@@ -1,4 +1,4 @@
--- The first range longer than one is found and cut to its first half. Assumes nothing.
+-- The first range longer than one is found and cut to its first half.
 use mathlib.Core.Path.{_≡_, refl, sym, ap, subst, _∙_}
 use Prim.Native.Nat.{ℕ, zero, suc, _≤_, _<_}
 use native.Mathlib.Omega.{arith}
@@ -11,7 +11,6 @@ use Rattle.meaning.specs.Groups.{half}
 use Rattle.rows.specs.Ranges.{Range, range, firstHalf, rowStart}
 use Rattle.groups.specs.Groups.{allSingle, firstChild}
 use Rattle.groups.specs.Lent.{Startable, Arrays, arrays, groupIn, Standing, Stands, ToChild}
-use Rattle.rows.proofs.Halving.{node-first-half}
 use Rattle.groups.proofs.LaidOut.{row-asked}
 use Rattle.groups.proofs.Arrays.{noRange, stands-start, stands-cut, own-length, own-get, standing-at}
 
@@ -36,16 +35,16 @@ module _ {h d : ℕ} {root count : List ℕ} {a : Arrays} (w : Standing h d root
   len-at j l = ap (λ (x : Range). x .len) (own-get w j l)
 
   -- c is the first part of the range at j
-  module _ {j c : ℕ} (l : j < h) (m : 1 < getD (a .len) j 0) (is : c ≡ half (getD (a .len) j 0)) where
+  module _ {j c : ℕ} (l : j < h) (is : c ≡ half (getD (a .len) j 0)) where
     abbrev cut : Range
     cut = range (getD (a .first) j 0) c
 
     pub child-asks : Startable d (getD root j 0) cut
-    child-asks = row-asked (w .stretches) j l (rw is (node-first-half (standing-at w j l .node) m))
+    child-asks = let x = standing-at w j l in row-asked (w .stretches) j l cut (omega (arith, x .within)) (omega (arith, x .full))
 
-    pub child-found : (v : ℕ) → ((k : ℕ) → k < j → getD (a .len) k 0 ≤ 1) → v ≡ rowStart d (getD root j 0) cut
+    pub child-found : 1 < getD (a .len) j 0 → (v : ℕ) → ((k : ℕ) → k < j → getD (a .len) k 0 ≤ 1) → v ≡ rowStart d (getD root j 0) cut
         → ToChild h d root a true (arrays (set (a .base) j v) (a .first) (set (a .len) j c))
-    child-found v s e =
+    child-found m v s e =
         let i = child-at xs j (omega (arith, own-length w)) (λ k p. omega (arith, s k p, len-at k (omega arith))) (omega (arith, len-at j l)) in
         let g : set xs j cut ≡ firstChild xs = ap (set xs j) (ap (range (getD (a .first) j 0)) is ∙ ap firstHalf (sym (own-get w j l))) ∙ sym (i .0) in
         let stands = stands-cut (stands-start (w .holds)) j l c v e in

@@ -1,21 +1,19 @@
--- What the stretches give: rows whose starts can be summed, and paths of every task. Assumes nothing.
+-- What the stretches give: rows whose starts can be summed, and paths of every task.
 use Prim.Native.Nat.{ℕ, zero, suc, _≤_, _<_}
 use native.Mathlib.Nat.{le-trans}
 use native.Mathlib.Omega.{arith}
 use mathlib.Core.List.{List, [], _∷_}
 use lib.ListN.{length, take, getD}
-use Rattle.rows.specs.Order.{Node}
-use Rattle.rows.specs.Ranges.{range}
-use Rattle.rows.proofs.Order.{node-in, row-end}
+use Rattle.rows.specs.Ranges.{Range, endOf}
+use Rattle.rows.proofs.Order.{row-end}
 use Rattle.groups.specs.Lent.{largestIndex, Startable, LaidOut}
 use Rattle.groups.proofs.Pending.{Filled}
 
--- what is asked where a row's start is summed
-pub row-asked : {h d : ℕ} {root count : List ℕ} → LaidOut largestIndex h d root count → (j : ℕ) → j < h → {f m : ℕ} → Node 0 (getD count j 0) f m
-    → Startable d (getD root j 0) (range f m)
-row-asked {h} {d} {root} s j l x =
-    let p = s .paths j l in
-    (omega (arith, node-in x), s .short, omega (arith, row-end d (getD root j 0) x (p .0), s .within j l))
+-- what is asked where a row's start is summed: some of the task's paths stand there
+pub row-asked : {h d : ℕ} {root count : List ℕ} → LaidOut largestIndex h d root count → (j : ℕ) → j < h → (x : Range) → endOf x ≤ getD count j 0 → 0 < x .len
+    → Startable d (getD root j 0) x
+row-asked {h} {d} {root} s j l x i p =
+    (omega (arith, s .paths j l .1), s .short, omega (arith, row-end d (getD root j 0) (x .first) (x .len) i p, s .within j l))
 
 module _ {room h d : ℕ} {root count : List ℕ} (s : LaidOut room h d root count) where
   pub wider : room ≤ largestIndex → LaidOut largestIndex h d root count

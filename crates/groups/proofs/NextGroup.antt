@@ -1,4 +1,4 @@
--- Back from the last task: ranges that end their tasks' paths are whole again, up to the first that does not. Assumes nothing.
+-- Back from the last task: ranges that end their tasks' paths are whole again, up to the first that does not.
 use mathlib.Core.Path.{_≡_, refl, sym, ap, ap₂, subst, _∙_}
 use Prim.Native.Nat.{ℕ, zero, suc, _+_, _-_, _≤_, _<_}
 use native.Mathlib.Omega.{arith}
@@ -13,9 +13,9 @@ use Rattle.meaning.specs.Bounds.{mostHigher, mostPaths}
 use mathlib.Core.Bool.{true, false}
 use Rattle.rows.specs.Ranges.{Range, range, endOf, restLength}
 use Rattle.groups.specs.Groups.{topGroup, nextGroup}
-use Rattle.rows.specs.Order.{Node, top}
 use Rattle.groups.specs.Lent.{Startable, Arrays, Sized, putRange, groupIn, Standing, Stands, ToNext}
 use Rattle.rows.proofs.Halving.{rest-next}
+use Rattle.rows.proofs.Order.{node-in, node-pos}
 use Rattle.groups.proofs.LaidOut.{row-asked}
 use Rattle.groups.proofs.Arrays.{noRange, group-get, stands-start, stands-put, own-length, own-get, standing-at}
 
@@ -124,18 +124,17 @@ module _ {h d : ℕ} {root count : List ℕ} {a : Arrays} (w : Standing h d root
           let e : s ≡ getD (a .first) i 0 + getD (a .len) i 0 = end-is ∙ end-at i in-h in
           (e, omega arith, omega arith, w .stretches .paths i in-h .1)
 
-      -- what is asked where a range is written
+      -- what is asked where a range of the task's paths is written
       abbrev Asks : Range → Type 0
       Asks x = Startable d (getD root i 0) x × (i < mostHigher) × Sized b
 
-      asks : {f m : ℕ} → Node 0 n f m → Asks (range f m)
-      asks x = (row-asked (w .stretches) i in-h x, omega (arith, in-h, w .stretches .few), k .stands .holds .sized)
+      pub back-asks : (x : Range) → endOf x ≤ n → 0 < x .len → Asks x
+      back-asks x p q = (row-asked (w .stretches) i in-h x p q, omega (arith, in-h, w .stretches .few), k .stands .holds .sized)
 
-      pub back-asks : s < n → (m : ℕ) → m ≡ restLength 0 n s → Asks (range s m)
-      back-asks l m e = asks (rw e (rest-next n s (back-end .1) l .node))
-
-      pub back-asks-whole : Asks (range 0 n)
-      back-asks-whole = asks (top refl refl)
+      pub back-asks-rest : s < n → (m : ℕ) → m ≡ restLength 0 n s → Asks (range s m)
+      back-asks-rest l m e =
+          let x = rest-next n s (back-end .1) l .node in
+          back-asks (range s m) (omega (arith, node-in x)) (omega (arith, node-pos x (omega arith)))
 
       ended-behind : (m : ℕ) → i < m → m < length xs → getD ns m 0 ≤ endOf (getD xs m noRange)
       ended-behind m p q = ended-at m q (k .ended m (omega arith) (omega (arith, own-length w)))

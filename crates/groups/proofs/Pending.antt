@@ -1,4 +1,4 @@
--- The groups still to be examined are a function of the group that the walk stands at. Assumes nothing.
+-- The groups still to be examined are a function of the group that the walk stands at.
 use mathlib.Core.Path.{_≡_, refl, ap, _∙_}
 use Prim.Native.Nat.{ℕ, suc, _+_, _≤_, _<_}
 use native.Mathlib.Omega.{arith}
@@ -48,16 +48,6 @@ pending-top (n ∷ ns) = rw (pending-top ns, rests-end n 0 n (0 + n) (omega arit
 
 -- ---- the first child
 
-pub walk-child : (ns : List ℕ) (xs : List Range) → InWalk ns xs → InWalk ns (firstChild xs)
-walk-child [] [] o = tt
-walk-child [] (x ∷ xs) o = absurd o
-walk-child (n ∷ ns) [] o = absurd o
-walk-child (n ∷ ns) (x ∷ xs) o = go (ltb 1 (x .len)) refl (walk-child ns xs (o .3))
-  where
-    go : (v : Bool) → ltb 1 (x .len) ≡ v → InWalk ns (firstChild xs) → InWalk (n ∷ ns) (pick v (firstHalf x ∷ xs) (x ∷ firstChild xs))
-    go true e i = let l : 1 < x .len = ltb-true 1 (x .len) e in (o .0, node-first-half (o .1) l, (λ h. o .2 l), o .3)
-    go false e i = let l : x .len ≤ 1 = ltb-false 1 (x .len) e in (o .0, o .1, (λ h. absurd (omega arith)), i)
-
 -- behind it comes the second child
 pub pending-child : (ns : List ℕ) (xs : List Range) → InWalk ns xs → allSingle xs ≡ false → pending ns (firstChild xs) ≡ secondChild xs ∷ pending ns xs
 pending-child [] [] o q = absurd (true≢false q)
@@ -72,6 +62,16 @@ pending-child (n ∷ ns) (x ∷ xs) o q = go (ltb 1 (x .len)) refl (λ h. pendin
         let w = o .2 l in
         rw e (rw (w, pending-top ns, split-next n 0 n (x .first) (x .len) (omega arith) l (o .1)))
     go false e i = rw e (rw (i (rw e at q)))
+
+pub walk-child : (ns : List ℕ) (xs : List Range) → InWalk ns xs → InWalk ns (firstChild xs)
+walk-child [] [] o = tt
+walk-child [] (x ∷ xs) o = absurd o
+walk-child (n ∷ ns) [] o = absurd o
+walk-child (n ∷ ns) (x ∷ xs) o = go (ltb 1 (x .len)) refl (walk-child ns xs (o .3))
+  where
+    go : (v : Bool) → ltb 1 (x .len) ≡ v → InWalk ns (firstChild xs) → InWalk (n ∷ ns) (pick v (firstHalf x ∷ xs) (x ∷ firstChild xs))
+    go true e i = let l : 1 < x .len = ltb-true 1 (x .len) e in (o .0, node-first-half (o .1) l, (λ h. o .2 l), o .3)
+    go false e i = let l : x .len ≤ 1 = ltb-false 1 (x .len) e in (o .0, o .1, (λ h. absurd (omega arith)), i)
 
 -- ---- the next group
 

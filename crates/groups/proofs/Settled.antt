@@ -1,4 +1,4 @@
--- There is only one way for arrays to stand at a group. Assumes nothing.
+-- There is only one way for arrays to stand at a group.
 use mathlib.Core.Path.{_≡_, refl, sym, ap, ap₂, _∙_}
 use Prim.Native.Nat.{ℕ, zero, suc}
 use native.Mathlib.Omega.{arith}

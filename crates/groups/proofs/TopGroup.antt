@@ -1,4 +1,4 @@
--- The top group is written range by range. Assumes nothing.
+-- The top group is written range by range.
 use mathlib.Core.Path.{_≡_, refl, sym, ap, ap₂, subst, _∙_}
 use Prim.Native.Nat.{ℕ, suc, _+_, _<_}
 use native.Mathlib.Omega.{arith}
@@ -9,7 +9,6 @@ use lib.Seq.{take-suc, take-suc-set, drop-set-lt, length-take-le}
 use Rattle.rows.specs.Ranges.{Range, range, rowStart}
 use Rattle.groups.specs.Groups.{topGroup, rowStarts}
 use Rattle.meaning.specs.Bounds.{mostHigher}
-use Rattle.rows.specs.Order.{top}
 use Rattle.groups.proofs.LaidOut.{row-asked}
 use Rattle.groups.specs.Lent.{Startable, Arrays, Sized, putRange, largestIndex, paired, Holds, LaidOut, Stands}
 use Rattle.groups.proofs.Arrays.{paired-length, paired-set, even, put-sized}
@@ -59,7 +58,7 @@ module _ {h d : ℕ} {root count : List ℕ} {a : Arrays} where
         ∙ sym (top-length (take j count) ∙ length-take-le j count (omega (arith, in-all, s .countLength)))
 
     pub top-asks : Startable d (getD root j 0) (range 0 n) × (j < mostHigher) × Sized b
-    top-asks = (row-asked s j l (top refl refl), in-all, w .holds .sized)
+    top-asks = (row-asked s j l (range 0 n) (omega arith) (s .paths j l .0), in-all, w .holds .sized)
 
     top-put : TopSoFar h d root count a (putRange d (getD root j 0) b j (range 0 n)) (suc j)
     top-put =

@@ -1,4 +1,4 @@
--- A group of ranges, one of each higher task, and the group that is examined next. Assumes nothing.
+-- A group of ranges, one of each higher task, and the group that is examined next.
 use mathlib.Core.Path.{_≡_}
 use Prim.Native.Nat.{ℕ, _<_}
 use mathlib.Core.Bool.{Bool, not}

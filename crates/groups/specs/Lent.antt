@@ -1,4 +1,4 @@
--- A group as the code has it, in lent arrays of which the first h cells count; what the functions ask of them and promise. Assumes nothing.
+-- A group as the code has it, in lent arrays of which the first h cells count; what the functions ask of them and promise.
 use mathlib.Core.Path.{_≡_}
 use Prim.Native.Nat.{ℕ, _+_, _*_, _≤_, _<_}
 use mathlib.Core.Bool.{Bool, true, false}

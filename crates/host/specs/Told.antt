@@ -1,28 +1,23 @@
--- What a C host is told of a judging: the answer's numbers, and every cell of the lent areas. Assumes nothing.
+-- What a C host is told of a judging: the answer's numbers, and every cell of the lent areas.
 use mathlib.Core.Path.{_≡_}
 use Prim.Native.Nat.{ℕ, _+_, _*_}
 use mathlib.Core.List.{List}
 use lib.ListN.{length, getD}
 use Rattle.meaning.specs.Text.{read}
-use Rattle.meaning.specs.Verdict.{Verdict, numbers}
-use Rattle.meaning.specs.Areas.{workAfter, witnessAfter}
-use Rattle.meaning.specs.Judge.{answer, needOf}
 use Rattle.meaning.specs.Whole.{Counts, TableAnswer, counted, uncounted, tableAnswer, tableWorkAfter}
+use Rattle.kinds.specs.declared.Verdict.{Verdict}
+use Rattle.kinds.specs.Numbers.{verdictNumbers}
+use Rattle.judge.specs.Judged.{Judged}
 
 -- ---- one vertex
 
--- the verdict x as the desk's 0 to 3, its value and its place, where `need` work cells are needed; a verdict without a place has 0 for it
-pub record Told (x : Verdict) (need : ℕ) (work wit : List ℕ) (number value place : ℕ) (work′ wit′ : List ℕ) : Type 0 where
-  pub number-is : number ≡ getD (numbers x) 0 0
-  pub value-is : value ≡ getD (numbers x) 1 0
-  pub place-is : place ≡ getD (numbers x) 2 0
-  pub cells : work′ ≡ workAfter x need work
-  pub paths : wit′ ≡ witnessAfter x wit
-
--- a judging call on a text: task i, vertex v, budget b, and the areas before and after
-abbrev pub VertexTold : List ℕ → ℕ → ℕ → ℕ → List ℕ → List ℕ → ℕ → ℕ → ℕ → List ℕ → List ℕ → Type 0
-VertexTold text i v b work wit number value place work′ wit′ =
-    Told (answer text i v b (length work) (length wit)) (needOf (read text) i v) work wit number value place work′ wit′
+-- a verdict that `judge` may give, as the desk's 0 to 3, its value and its place; a verdict without a place has 0 for it
+pub record VertexTold (text : List ℕ) (i v b : ℕ) (work wit : List ℕ) (number value place : ℕ) (work′ wit′ : List ℕ) : Type 0 where
+  pub verdict : Verdict
+  pub judged : Judged text i v b work wit verdict work′ wit′
+  pub number-is : number ≡ getD (verdictNumbers verdict) 0 0
+  pub value-is : value ≡ getD (verdictNumbers verdict) 1 0
+  pub place-is : place ≡ getD (verdictNumbers verdict) 2 0
 
 -- ---- a whole table
 

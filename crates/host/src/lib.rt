@@ -1,5 +1,5 @@
-// "The customer desk's C host calls the text check directly": `text_check` is the reader's. Here are the judging calls that a C host may want, over
-// numbers and slices. A slice comes from C as a pointer and a length; an empty one may have a null pointer.
+// "The customer desk's C host calls the text check directly": `text_check` is the reader's. Here it has the project's name too, beside the judging calls
+// that a C host may want, over numbers and slices. A slice comes from C as a pointer and a length; an empty one may have a null pointer.
 //
 // Names that a C program sees start with the project's. A vertex's value and place come back behind pointers, C's way to return more than one number: a
 // count may take 32 bits, and the place beside it has no width of its own.
@@ -14,20 +14,41 @@ use kinds::refusal_number;
 use kinds::verdict_number;
 use kinds::verdict_place;
 use kinds::verdict_value;
+use reader::text_check;
 ghost use mathlib.Core.Path.{_≡_};
+ghost use Prim.Native.Nat.{min};
 ghost use lib.ListN.{length};
+ghost use Rattle.meaning.specs.Text.{read, packed};
 ghost use Rattle.meaning.specs.Areas.{Wrote};
 ghost use Rattle.judge.specs.Desk.{outputInto};
 ghost use Rattle.counts.specs.Counts.{meantCounts};
 ghost use Rattle.host.specs.Told.{VertexTold, countsNumber, TableTold};
+
+// The text check, by the project's name.
+#[no_mangle]
+pub extern "C" fn tectavirio_text_check(text: &[u8]) -> u32
+    ensures { λ r. ⌜ r ≡ packed (read (now (text .entry))) ⌝ }
+{
+    text_check(text)
+}
+
+// A number in the width of a kind: 255 stands for every number above it, since no table has so many tasks and no task so many vertices.
+fn narrow(n: u32) -> u8
+    ensures { λ r. ⌜ r ≡ min n 255 ⌝ }
+{
+    if n > 255 {
+        return 255;
+    }
+    n as u8
+}
 
 // One vertex of the text's table: gives the verdict's number, 0 meets, 1 misses, 2 unfinished, 3 refused. The value is the count, the budget or the
 // refusal's number; the place is the cells written by a miss, what is returned with a refusal, else zero.
 #[no_mangle]
 pub extern "C" fn tectavirio_judge(
     text: &[u8],
-    task: u8,
-    vertex: u8,
+    task: u32,
+    vertex: u32,
     budget: u32,
     work: &mut [u32],
     witness: &mut [u16],
@@ -38,8 +59,8 @@ pub extern "C" fn tectavirio_judge(
 {
     let verdict = judge(
         text,
-        TaskNumber(task),
-        VertexNumber(vertex),
+        TaskNumber(narrow(task)),
+        VertexNumber(narrow(vertex)),
         budget,
         work,
         witness,

@@ -1,38 +1,44 @@
--- The answer to a text: refused at its line, or that of its table. Assumes nothing.
+-- The answer to a text: refused at its line, or that of its table.
 use mathlib.Core.Path.{_≡_, refl, sym, ap, subst}
 use Prim.Native.Nat.{ℕ}
 use mathlib.Core.List.{List}
 use lib.ListN.{length}
 use Rattle.meaning.specs.Table as Meant
-use Rattle.meaning.specs.Text.{Reading, read}
+use Rattle.meaning.specs.Text.{Reading, read, tasksOf}
 use Rattle.meaning.specs.Areas.{workNeed}
-use Rattle.meaning.specs.Judge.{judged, onReading, needOf}
+use Rattle.meaning.specs.Judge.{judged, onReading}
 use Rattle.meaning.specs.Whole.{counted, tableAnswer, tableWorkAfter}
 use Rattle.kinds.specs.declared.RefusedAt.{RefusedAt}
 use Rattle.kinds.specs.declared.Verdict.{Verdict}
 use Rattle.kinds.specs.declared.Verdict.the-variants.{Refused}
 use Rattle.table.specs.declared.Table.{Table}
-use Rattle.table.specs.Record.{tableOf, Held}
+use Rattle.table.specs.Inner.{tableOf, Held}
 use Rattle.reader.proofs.Result.{TableRead, LineRefused}
 use Rattle.counts.specs.declared.Counts.{Counts}
 use Rattle.judge.specs.declared.TableVerdict.{TableVerdict}
 use Rattle.judge.specs.declared.TableVerdict.the-variants as Whole
-use Rattle.judge.specs.Judged.{Answered, Judged}
-use Rattle.judge.specs.Whole.{TableCounted, answerOf, TableJudged}
+use Rattle.judge.specs.Judged.{Judged}
+use Rattle.judge.specs.Inner.{Answered, TableCounted}
+use Rattle.judge.specs.Whole.{answerOf, TableJudged}
 
 pub read-held : {text : List ℕ} {t : Table} → TableRead text t → Held t
 read-held r = record { whole = r .is; sound = r .sound }
 
 module _ (text : List ℕ) (i v b : ℕ) (work wit : List ℕ) where
   abbrev For : Reading → Verdict → List ℕ → List ℕ → Type 0
-  For m r work′ wit′ = Answered (onReading m (λ (ts : Meant.Table). judged ts i v b (length work) (length wit))) (needOf m i v) work wit r work′ wit′
+  For m r work′ wit′ = Answered (onReading m (λ (ts : Meant.Table). judged ts i v b (length work) (length wit))) (workNeed (tasksOf m) i v) work wit r work′ wit′
+
+  judged-for : (r : Verdict) (work′ wit′ : List ℕ) → For (read text) r work′ wit′ → Judged text i v b work wit r work′ wit′
+  judged-for r work′ wit′ x = record { verdict = x .verdict; cells = x .cells; paths = x .paths }
 
   pub text-refuses : (at : RefusedAt) → LineRefused text at → Judged text i v b work wit (Refused at) work wit
-  text-refuses at l = subst (λ m. For m (Refused at) work wit) (sym (l .means)) (record { verdict = refl; cells = refl; paths = refl })
+  text-refuses at l =
+      judged-for (Refused at) work wit
+      (subst (λ m. For m (Refused at) work wit) (sym (l .means)) (record { verdict = refl; cells = refl; paths = refl }))
 
   pub table-answers : (t : Table) (r : Verdict) (work′ wit′ : List ℕ) → TableRead text t
       → Answered (judged (tableOf t) i v b (length work) (length wit)) (workNeed (tableOf t) i v) work wit r work′ wit′ → Judged text i v b work wit r work′ wit′
-  table-answers t r work′ wit′ q x = subst (λ m. For m r work′ wit′) (sym (q .means)) x
+  table-answers t r work′ wit′ q x = judged-for r work′ wit′ (subst (λ m. For m r work′ wit′) (sym (q .means)) x)
 
 -- ---- of a whole table
 

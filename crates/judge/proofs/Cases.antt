@@ -1,5 +1,5 @@
--- Which case of a verdict has these numbers. Assumes nothing.
-use mathlib.Core.Path.{_≡_, refl, sym, ap, ap₂}
+-- Which case of a verdict has these numbers.
+use mathlib.Core.Path.{_≡_, sym, ap, ap₂}
 use Prim.Native.Nat.{ℕ}
 use mathlib.Core.List.{List}
 use native.Mathlib.Omega.{arith}
@@ -38,9 +38,3 @@ says-refused (meets a) at q = absurd (omega (arith, cell 0 q))
 says-refused (misses a ws) at q = absurd (omega (arith, cell 0 q))
 says-refused (unfinished b) at q = absurd (omega (arith, cell 0 q))
 says-refused (refused k place) at q = ap₂ refused (sym (cell 1 q)) (sym (cell 2 q))
-
-pub is-refused : (r : Verdict) (k n : ℕ) → verdictNumbers r ≡ numbers (refused k n) → (at : RefusedAt) × (r ≡ Refused at) × (refusalNumber (at .refusal) ≡ k) × (at .place ≡ n)
-is-refused (Meets c) k n q = absurd (omega (arith, cell 0 q))
-is-refused (Misses c m) k n q = absurd (omega (arith, cell 0 q))
-is-refused (Unfinished b) k n q = absurd (omega (arith, cell 0 q))
-is-refused (Refused at) k n q = (at, refl, cell 1 q, cell 2 q)

@@ -1,11 +1,11 @@
--- The lines of a table's vertices, and how long they can be. Assumes nothing.
+-- The lines of a table's vertices, and how long they can be.
 use mathlib.Core.Path.{_≡_, refl, ap, _∙_}
 use Prim.Native.Nat.{ℕ, suc, _+_, _*_, _≤_}
 use native.Mathlib.Omega.{arith}
 use mathlib.Core.List.{List, [], _∷_, _++_, map, append-nil, List·Memᴰ, List·Memᴰ·head, List·Memᴰ·tail}
 use lib.ListN.{length, length-append}
 use Rattle.meaning.specs.Lists.{gather}
-use Rattle.meaning.specs.Bounds.{largestD, deskBudget, deskWork, deskWitness, countsLine, longestPathLine, longestVertex, longestOutput}
+use Rattle.meaning.specs.Bounds.{largestD, deskBudget, deskWork, deskWitness, countsLine, lineLength, longestVertex, longestOutput}
 use Rattle.meaning.specs.Table.{Table}
 use Rattle.meaning.specs.Paths.{Path}
 use Rattle.meaning.specs.Verdict.{Verdict, meets, misses, unfinished, refused}
@@ -42,7 +42,7 @@ table-lines ts =
 
 -- ---- how long they are
 
-path-lines-short : (i : ℕ) (ws : List Path) → ((w : Path) → List·Memᴰ w ws → Fits largestD w) → length (pathLines i ws) ≤ longestPathLine * length ws
+path-lines-short : (i : ℕ) (ws : List Path) → ((w : Path) → List·Memᴰ w ws → Fits largestD w) → length (pathLines i ws) ≤ lineLength (3 + largestD) * length ws
 path-lines-short i [] f = omega arith
 path-lines-short i (w ∷ ws) f =
     let both = length-append (line (pathFrame i w)) (pathLines (suc i) ws) in

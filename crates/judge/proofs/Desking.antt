@@ -1,4 +1,4 @@
--- The desk's lines, one vertex after the other, and the counts behind them. Assumes nothing.
+-- The desk's lines, one vertex after the other, and the counts behind them.
 use mathlib.Core.Path.{_≡_, refl, sym, ap, subst, _∙_}
 use Prim.Native.Nat.{ℕ, _+_, _≤_, _<_}
 use native.Mathlib.Omega.{arith}
@@ -17,14 +17,13 @@ use Rattle.meaning.proofs.Wrote.{wrote-none, wrote-then, wrote-length}
 use Rattle.meaning.proofs.Whole.{verdict-at, desk-witness}
 use Rattle.kinds.specs.declared.Verdict.{Verdict}
 use Rattle.table.specs.declared.Table.{Table}
-use Rattle.table.specs.Record.{tableOf, Held}
+use Rattle.table.specs.Inner.{tableOf, Held}
 use Rattle.desk_frames.specs.Lines.{WholeShown, shownLines}
 use Rattle.counts.specs.declared.Counts.{Counts}
-use Rattle.counts.specs.Counts.{meantCounts, noCounts, oneMore}
+use Rattle.counts.specs.Counts.{meantCounts}
+use Rattle.counts.specs.Inner.{noCounts, oneMore}
 use Rattle.counts.specs.Place.{firstPlace}
-use Rattle.judge.specs.Judged.{Answered}
-use Rattle.judge.specs.Whole.{nextIn}
-use Rattle.judge.specs.Desk.{tableOutput}
+use Rattle.judge.specs.Inner.{Answered, nextIn, tableOutput}
 use Rattle.judge.proofs.Remaining.{remaining, remaining-first}
 use Rattle.judge.proofs.SoFar.{SoFar, so-far-none, so-far-end, so-far-all, so-far-in, so-far-next, so-far-said, so-far-more}
 use Rattle.judge.proofs.DeskLines.{vertexLines, bytesOf, lines-cons, countsBytes, table-lines, lines-fit}
@@ -34,7 +33,7 @@ use Rattle.judge.proofs.Shown.{Shown, vertex-shown}
 desk-verdicts : (ts : Meant.Table) → SoundTable ts → verdicts ts deskBudget deskWork ≡ map (deskVerdict ts) (places ts)
 desk-verdicts ts s =
     map-mem (verdictAt ts deskBudget deskWork) (deskVerdict ts) (places ts)
-    (λ q m. verdict-at ts deskBudget deskWork deskWitness q m (desk-witness ts s q m))
+    (λ q m. verdict-at ts deskBudget deskWork deskWitness q (desk-witness ts s q m))
 
 -- ---- with the vertices from q on still to come
 

@@ -1,4 +1,4 @@
--- The tasks of higher priority than task i of a held table, one after the other: their paths counted, their stretches filled. Assumes nothing.
+-- The tasks of higher priority than task i of a held table, one after the other: their paths counted, their stretches filled.
 use mathlib.Core.Path.{_≡_, refl, sym, ap, subst, _∙_}
 use Prim.Native.Nat.{ℕ, _+_, _*_, _≤_, _<_, min}
 use native.Mathlib.Omega.{arith}
@@ -17,7 +17,7 @@ use Rattle.meaning.proofs.PathsOf.{paths-some}
 use Rattle.meaning.proofs.Wrote.{Gathering, gathering-none, gathering-more, gathering-all, front-set}
 use Rattle.table.specs.declared.Task.{Task}
 use Rattle.table.specs.declared.Table.{Table}
-use Rattle.table.specs.Record.{taskOf, tableOf, HeldTask, Held}
+use Rattle.table.specs.Inner.{taskOf, tableOf, HeldTask, Held}
 use Rattle.table.proofs.Records.{held-count, held-few, held-is, held-one, held-sound}
 use Rattle.ranges.specs.Stretch.{stretchCells, stretchOf}
 use Rattle.areas.specs.declared.above.Above.{Above}

@@ -12,3 +12,4 @@ pub mod DeskLines
 pub mod Shown
 pub mod Desking
 pub mod Output
+pub mod GoesOut

@@ -1,4 +1,4 @@
--- The cells of a miss, one higher task after the other. Assumes nothing.
+-- The cells of a miss, one higher task after the other.
 use mathlib.Core.Path.{_≡_, sym, ap, subst, _∙_}
 use Prim.Native.Nat.{ℕ, _+_, _*_, _≤_, _<_}
 use native.Mathlib.Omega.{arith}
@@ -10,15 +10,15 @@ use Rattle.meaning.specs.Bounds.{mostHigher, largestD}
 use Rattle.meaning.specs.Table as Meant
 use Rattle.meaning.specs.Table.{higher}
 use Rattle.meaning.specs.Paths.{Path}
-use Rattle.meaning.specs.Verdict.{pathCell, cellsOf}
+use Rattle.meaning.specs.Verdict.{cellsOf}
 use Rattle.meaning.specs.Areas.{Wrote}
 use Rattle.meaning.proofs.Wrote.{Gathering, gathering-none, gathering-more, gathering-all}
 use Rattle.table.specs.declared.Task.{Task}
 use Rattle.table.specs.declared.Table.{Table}
-use Rattle.table.specs.Record.{taskOf, tableOf, HeldTask, Held}
+use Rattle.table.specs.Inner.{taskOf, tableOf, HeldTask, Held}
 use Rattle.table.proofs.Records.{held-one}
 use Rattle.ways.specs.Ways.{mostCounted}
-use Rattle.areas.specs.Witness.{pathAt, pathsAt}
+use Rattle.areas.specs.Witness.{pathCell, pathAt, pathsAt}
 use Rattle.areas.proofs.Witnesses.{at-place, places-length}
 use Rattle.judge.proofs.Higher.{many, seven, task-is}
 

@@ -1,4 +1,4 @@
--- A vertex of a held table: the answer at each return. Assumes nothing.
+-- A vertex of a held table: the answer at each return.
 use mathlib.Core.Path.{_≡_, refl, sym, ap, ap₂, subst, _∙_}
 use Prim.Native.Nat.{ℕ, _+_, _*_, _≤_, _<_, min}
 use native.Mathlib.Omega.{arith}
@@ -12,7 +12,7 @@ use Rattle.meaning.specs.Table as Meant
 use Rattle.meaning.specs.Table.{taskAt, higher}
 use Rattle.meaning.specs.Verdict as Said
 use Rattle.meaning.specs.Paths.{Path, pathsOf}
-use Rattle.meaning.specs.Verdict.{pathCell, cellsOf, walked, deadline, numbers}
+use Rattle.meaning.specs.Verdict.{cellsOf, walked, deadline, numbers}
 use Rattle.meaning.specs.Areas.{rowsFor, workNeed, witnessNeed, written, zeroed, workAfter, witnessAfter, Wrote}
 use Rattle.meaning.specs.Judge.{judged}
 use Rattle.meaning.proofs.Wrote.{front-set}
@@ -24,7 +24,7 @@ use Rattle.kinds.specs.declared.Verdict.the-variants as Kind
 use Rattle.kinds.specs.Numbers.{refusalNumber, verdictNumbers}
 use Rattle.table.specs.declared.Task.{Task}
 use Rattle.table.specs.declared.Table.{Table}
-use Rattle.table.specs.Record.{taskOf, tableOf, HeldTask, Held}
+use Rattle.table.specs.Inner.{taskOf, tableOf, HeldTask, Held}
 use Rattle.table.proofs.Records.{held-count, held-one}
 use Rattle.table.proofs.Vertices.{ownTask, ownVertex, own-size, job-sound, job-d, job-e}
 use Rattle.ways.specs.Ways.{mostCounted}
@@ -37,7 +37,7 @@ use Rattle.areas.specs.declared.above.Above.{Above}
 use Rattle.areas.specs.Above.{pathCounts, rowsIn, aboveOf, noneAbove, withPaths, Counted}
 use Rattle.ranges.specs.Stretch.{stretchCells, stretchOf}
 use Rattle.areas.specs.Stretches.{stretches}
-use Rattle.areas.specs.Witness.{pathAt, pathsAt}
+use Rattle.areas.specs.Witness.{pathCell, pathAt, pathsAt}
 use Rattle.areas.proofs.Counting.{above-rows}
 use Rattle.areas.proofs.Filling.{Few, rows-fit, need-is, counts-length}
 use Rattle.sheet.specs.declared.AreaRows.{AreaRows}
@@ -47,8 +47,7 @@ use Rattle.sheet.proofs.Needs.{cells-small, row-10, row-11, rows-passed, area-r
 use Rattle.search.specs.Meant.{meantBy}
 use Rattle.search.proofs.Joining.{walkable}
 use Rattle.search.proofs.Ending.{places-are, places-small, walked-is}
-use Rattle.judge.specs.Judged.{Answered}
-use Rattle.judge.specs.Whole.{There}
+use Rattle.judge.specs.Inner.{Answered, There}
 use Rattle.judge.proofs.Higher.{many, seven, CountedTo, counted-none, crowds, count-pos, with-asks, counted-more, all-counted, all-few}
 use Rattle.judge.proofs.Higher.{FilledTo, filled-none, fill-asks, filled-more, filled-all}
 use Rattle.judge.proofs.Missing.{MissTo, miss-none, place-asks, miss-more, miss-all}

@@ -1,4 +1,4 @@
--- The desk's whole output: what each way to end writes. Assumes nothing.
+-- The desk's whole output: what each way to end writes.
 use mathlib.Core.Path.{_≡_, refl, sym, ap, subst, _∙_}
 use Prim.Native.Nat.{ℕ, _≤_, _<_}
 use native.Mathlib.Omega.{arith}
@@ -19,12 +19,14 @@ use Rattle.meaning.proofs.Demands.{readable-sound}
 use Rattle.kinds.specs.declared.RefusedAt.{RefusedAt}
 use Rattle.kinds.specs.Numbers.{refusalNumber}
 use Rattle.table.specs.declared.Table.{Table}
-use Rattle.table.specs.Record.{tableOf}
+use Rattle.table.specs.Inner.{tableOf}
 use Rattle.reader.proofs.Result.{TableRead, LineRefused}
 use Rattle.meaning.specs.Areas.{Wrote}
 use Rattle.desk_frames.proofs.Lines.{line-length}
 use Rattle.meaning.proofs.Wrote.{wrote-none, wrote-length}
-use Rattle.judge.specs.Desk.{tableOutput, outputInto}
+use Rattle.judge.specs.Desk.{outputInto}
+use Rattle.judge.specs.Settled.{OutputFits}
+use Rattle.judge.specs.Inner.{tableOutput}
 use Rattle.judge.proofs.DeskLines.{bytesOf, countsBytes, table-lines, lines-fit}
 
 module _ (text : List ℕ) where
@@ -79,7 +81,7 @@ reading-fits : (text : List ℕ) (m : Reading) → read text ≡ m → length (g
 reading-fits text (readable ts) e = table-fits ts (readable-sound text ts e)
 reading-fits text (unreadable k n) e = omega arith
 
-pub output-fits : (text : List ℕ) (n : ℕ) → length (outputInto text n) ≤ n
+pub output-fits : OutputFits
 unfolding outputInto
 output-fits text n =
     elim (decLt n longestOutput) [

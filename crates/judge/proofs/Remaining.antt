@@ -1,4 +1,4 @@
--- A loop over the vertices of a table: those from a place on. Assumes nothing.
+-- A loop over the vertices of a table: those from a place on.
 use mathlib.Core.Path.{_≡_, refl, sym, ap, ap₂, subst, _∙_}
 use Prim.Native.Nat.{ℕ, suc, _+_, _-_, _≤_, _<_}
 use native.Mathlib.Nat.{sub-zero}
@@ -14,10 +14,10 @@ use Rattle.meaning.specs.Sound.{SoundTable}
 use Rattle.meaning.specs.Whole.{Place, placesFrom, places}
 use Rattle.meaning.proofs.Lists.{mem-getD}
 use Rattle.table.specs.declared.Table as Record
-use Rattle.table.specs.Record.{tableOf, Held}
+use Rattle.table.specs.Inner.{tableOf, Held}
 use Rattle.counts.specs.Place.{firstPlace, nextPlace, Within}
 use Rattle.counts.proofs.NextPlace.{at, next-vertex, next-task}
-use Rattle.judge.specs.Whole.{size, nextIn, There}
+use Rattle.judge.specs.Inner.{size, nextIn, There}
 use Rattle.table.proofs.Records.{held-count, held-few}
 use Rattle.table.proofs.Vertices.{ownTask, own-size, own-few}
 

@@ -1,4 +1,4 @@
--- The refusal sheet's rows 8 to 11, from what the code tests, in order. Assumes nothing.
+-- The refusal sheet's rows 8 to 11, from what the code tests, in order.
 use mathlib.Core.Path.{_≡_, refl, sym, ap, subst, _∙_}
 use Prim.Native.Nat.{ℕ, zero, suc, _+_, _-_, _*_, _≤_, _<_}
 use native.Mathlib.Omega.{arith}
@@ -14,11 +14,12 @@ use Rattle.meaning.specs.Bounds.{mostPaths}
 use Rattle.meaning.specs.Table as Meant
 use Rattle.meaning.specs.Table.{noTask, taskAt, higher}
 use Rattle.meaning.specs.Paths.{pathsOf}
-use Rattle.meaning.specs.Verdict.{Verdict, refused, walkedAt, deadline}
+use Rattle.meaning.specs.Verdict.{Verdict, refused, deadline}
 use Rattle.meaning.specs.Areas.{rowsFor, rowsOf, workNeed, witnessNeed}
-use Rattle.meaning.specs.Judge.{Row, crowded, row8, row9, row10, row11, firstRow, unlessRefused, judged}
+use Rattle.meaning.specs.Judge.{Row, crowded, row8, row9, row10, row11, unlessRefused, judged}
 use Rattle.meaning.proofs.Lists.{getD-mapped, and-false}
-use Rattle.meaning.proofs.Refusals.{row-none, row-some}
+use Rattle.meaning.proofs.Refusals.{firstRow, row-none, row-some}
+use Rattle.meaning.proofs.Verdicts.{walkedAt}
 use Rattle.areas.specs.Above.{rowsIn, pathCounts}
 
 -- ---- the first that passes a test, among numbers in turn

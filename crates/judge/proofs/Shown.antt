@@ -1,4 +1,4 @@
--- What the desk shows of a vertex, from its verdict and the witness area, is what `meaning` has for it. Assumes nothing.
+-- What the desk shows of a vertex, from its verdict and the witness area, is what `meaning` has for it.
 use mathlib.Core.Path.{_≡_, sym, ap, ap₂, subst, _∙_}
 use Prim.Native.Nat.{ℕ}
 use native.Mathlib.Omega.{arith}
@@ -22,7 +22,7 @@ use Rattle.kinds.specs.declared.Verdict.the-variants.{Meets, Misses, Unfinished
 use Rattle.kinds.specs.Numbers.{verdictNumbers}
 use Rattle.desk_frames.specs.Lines.{WholePaths, WholeShown, cellPaths, pathLines, shownLines}
 use Rattle.desk_frames.proofs.PathLines.{Small, cells-paths, cells-whole}
-use Rattle.judge.specs.Judged.{Answered}
+use Rattle.judge.specs.Inner.{Answered}
 use Rattle.judge.proofs.Cases.{says-meets, says-misses, says-unfinished, says-refused}
 use Rattle.judge.proofs.DeskLines.{vertexLines}
 

@@ -1,4 +1,4 @@
--- A loop over a table's vertices that counts their verdicts: what holds when it comes to a place. Assumes nothing.
+-- A loop over a table's vertices that counts their verdicts: what holds when it comes to a place.
 use mathlib.Core.Path.{_≡_, sym, subst}
 use Prim.Native.Nat.{ℕ, _*_, _≤_, _<_}
 use native.Mathlib.Omega.{arith}
@@ -14,14 +14,15 @@ use Rattle.meaning.proofs.Counts.{places-few}
 use Rattle.kinds.specs.declared.Verdict.{Verdict}
 use Rattle.kinds.specs.Numbers.{verdictNumbers}
 use Rattle.table.specs.declared.Table.{Table}
-use Rattle.table.specs.Record.{tableOf, Held}
+use Rattle.table.specs.Inner.{tableOf, Held}
 use Rattle.table.proofs.Records.{held-count}
 use Rattle.counts.specs.declared.Counts.{Counts}
-use Rattle.counts.specs.Counts.{meantCounts, noCounts, total, oneMore}
+use Rattle.counts.specs.Counts.{meantCounts}
+use Rattle.counts.specs.Inner.{total, noCounts, oneMore}
 use Rattle.table.proofs.Vertices.{ownTask}
 use Rattle.counts.specs.Place.{firstPlace, nextPlace, Within}
 use Rattle.counts.proofs.Counting.{Counting, counting-none, counting-more, counting-all, counting-few}
-use Rattle.judge.specs.Whole.{nextIn, There}
+use Rattle.judge.specs.Inner.{nextIn, There}
 use Rattle.judge.proofs.Remaining.{there-within, next-in, remaining, remaining-first, remaining-next, remaining-none}
 use Rattle.judge.proofs.Remaining.{Reached, reached-first, reached-there, reached-in, reached-next, reached-fewer}
 
@@ -86,7 +87,7 @@ module _ {t : Table} {b work : ℕ} {c : Counts} {q : Place} (k : SoFar t b work
     -- a judging with this budget and as many work cells says what the whole table's does
     pub so-far-said : {cells wits : ℕ} → cells ≡ work → wits ≡ deskWitness
         → judged (tableOf t) (q .task) (q .vertex) b cells wits ≡ verdictAt (tableOf t) b work q
-    so-far-said e f = rw (e, f) (sym (verdict-at (tableOf t) b work deskWitness q so-far-in (desk-witness (tableOf t) (k .held .sound) q so-far-in)))
+    so-far-said e f = rw (e, f) (sym (verdict-at (tableOf t) b work deskWitness q (desk-witness (tableOf t) (k .held .sound) q so-far-in)))
 
     pub so-far-more : (r : Verdict) {n : Counts} {p : Place} → verdictNumbers r ≡ numbers (verdictAt (tableOf t) b work q)
         → n ≡ oneMore c r → p ≡ nextIn (tableOf t) q → SoFar t b work n p

@@ -1,4 +1,4 @@
--- Judging a table's vertices one after the other: the four counts and the work area. Assumes nothing.
+-- Judging a table's vertices one after the other: the four counts and the work area.
 use mathlib.Core.Path.{_≡_, refl, sym, ap, _∙_}
 use Prim.Native.Nat.{ℕ, _≤_, _<_}
 use mathlib.Core.List.{List, map}
@@ -7,28 +7,20 @@ use Rattle.meaning.specs.Lists.{largest}
 use Rattle.meaning.specs.Bounds.{deskWitness}
 use Rattle.meaning.specs.Table as Meant
 use Rattle.meaning.specs.Verdict as Said
-use Rattle.meaning.specs.Verdict.{meets, misses, unfinished, refused, numbers}
-use Rattle.meaning.specs.Areas.{workNeed, zeroed, workAfter}
+use Rattle.meaning.specs.Verdict.{numbers}
+use Rattle.meaning.specs.Areas.{workNeed, zeroed, needUnless}
 use Rattle.meaning.specs.Judge.{judged}
-use Rattle.meaning.specs.Whole.{Place, verdictAt, needUnless, tableNeed}
+use Rattle.meaning.specs.Whole.{Place, verdictAt, tableNeed}
 use Rattle.kinds.specs.declared.Verdict.{Verdict}
 use Rattle.table.specs.declared.Table.{Table}
-use Rattle.table.specs.Record.{tableOf, Held}
+use Rattle.table.specs.Inner.{tableOf, Held}
 use Rattle.areas.proofs.Fronts.{zeroed-twice}
 use Rattle.counts.specs.declared.Counts.{Counts}
-use Rattle.counts.specs.Counts.{noCounts, oneMore}
+use Rattle.counts.specs.Inner.{noCounts, oneMore}
 use Rattle.counts.specs.Place.{firstPlace}
-use Rattle.judge.specs.Judged.{Answered}
-use Rattle.judge.specs.Whole.{nextIn, TableCounted}
+use Rattle.judge.specs.Inner.{Answered, nextIn, TableCounted}
 use Rattle.judge.proofs.Remaining.{remaining, remaining-first}
 use Rattle.judge.proofs.SoFar.{SoFar, so-far-none, so-far-end, so-far-all, so-far-next, so-far-said, so-far-more}
-
--- the needed cells are zero; of a refused vertex none are
-after-need : (x : Said.Verdict) (need : ℕ) (cells : List ℕ) → workAfter x need cells ≡ zeroed (needUnless x need) cells
-after-need (meets c) need cells = refl
-after-need (misses c ws) need cells = refl
-after-need (unfinished b) need cells = refl
-after-need (refused k place) need cells = refl
 
 -- what a vertex zeroes
 abbrev needAt : Meant.Table → ℕ → ℕ → Place → ℕ
@@ -78,7 +70,7 @@ module _ {t : Table} {b : ℕ} {before now wit : List ℕ} {c : Counts} {q : Pla
 
     module _ {now′ wit′ : List ℕ} {r : Verdict} (a : Answered said need now wit r now′ wit′) where
       zeroes-own : now′ ≡ zeroed (needAt (tableOf t) b (length before) q) now
-      zeroes-own = a .cells ∙ after-need said need now ∙ ap (λ (x : Said.Verdict). zeroed (needUnless x need) now) is-said
+      zeroes-own = a .cells ∙ ap (λ (x : Said.Verdict). zeroed (needUnless x need) now) is-said
 
       pub judged-more : {m : Counts} {p : Place} → length now′ ≡ length now → length wit′ ≡ length wit → m ≡ oneMore c r → p ≡ nextIn (tableOf t) q
           → JudgedSoFar t b before now′ wit′ m p

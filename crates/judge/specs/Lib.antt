@@ -2,3 +2,6 @@ pub mod Judged
 pub mod Whole
 pub mod Desk
 pub mod Demands
+pub mod GoesOut
+pub mod Settled
+pub mod Inner

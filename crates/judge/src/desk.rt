@@ -14,9 +14,9 @@ use table::Table;
 ghost use Prim.Native.Nat.{_≤_};
 ghost use lib.ListN.{length};
 ghost use Rattle.meaning.specs.Bounds.{longestOutput};
-ghost use Rattle.table.specs.Record.{tableOf, Held};
+ghost use Rattle.table.specs.Inner.{tableOf, Held};
 ghost use Rattle.meaning.specs.Areas.{Wrote};
-ghost use Rattle.judge.specs.Desk.{tableOutput};
+ghost use Rattle.judge.specs.Inner.{tableOutput};
 
 pub(crate) fn table_lines(out: &mut [u8], t: Table) -> usize
     requires { ⌜ Held t × (longestOutput ≤ length (now out)) ⌝ }

@@ -20,9 +20,8 @@ use walk::Ending;
 ghost use lib.ListN.{length};
 ghost use Rattle.meaning.specs.Areas.{workNeed};
 ghost use Rattle.meaning.specs.Judge.{judged};
-ghost use Rattle.table.specs.Record.{tableOf, Held};
-ghost use Rattle.judge.specs.Judged.{Answered};
-ghost use Rattle.judge.specs.Whole.{There};
+ghost use Rattle.table.specs.Inner.{tableOf, Held};
+ghost use Rattle.judge.specs.Inner.{Answered, There};
 
 // "After the text: 8, 9, 10, 11." A vertex of the table: 9 to 11, and then the walk.
 pub(crate) fn judge_vertex(
@@ -46,7 +45,8 @@ pub(crate) fn judge_vertex(
         let next = t.tasks[j];
         let paths = path_count(next, job.d, MOST_PATHS + 1);
         if MOST_PATHS < paths {
-            return too_many_paths(j);
+            let crowded = j as u8;
+            return too_many_paths(TaskNumber(crowded));
         }
         above = with_paths(above, j, paths, job.d);
         j += 1;

@@ -8,8 +8,8 @@ use counts::no_counts;
 use counts::places::first_place;
 use counts::places::next_place;
 use table::Table;
-ghost use Rattle.table.specs.Record.{tableOf, Held};
-ghost use Rattle.judge.specs.Whole.{TableCounted};
+ghost use Rattle.table.specs.Inner.{tableOf, Held};
+ghost use Rattle.judge.specs.Inner.{TableCounted};
 
 // A witness area of its own, as long as any vertex needs, so that no vertex is refused by 11.
 pub(crate) fn count_verdicts(t: Table, budget: u32, work: &mut [u32]) -> Counts

@@ -1,13 +1,21 @@
--- The numbers settle the case: no two refusals and no two verdicts have the same. Assumes nothing.
+-- The numbers settle the case: no two refusals and no two verdicts have the same.
 use mathlib.Core.Path.{_≡_, refl, sym, ap, _∙_}
-use Prim.Native.Nat.{ℕ}
+use Prim.Native.Nat.{ℕ, zero, suc, _≤_}
+use native.Mathlib.Omega.{arith}
 use mathlib.Core.List.{List, [], _∷_}
 use Rattle.kinds.specs.declared.Refusal.{Refusal}
 use Rattle.kinds.specs.declared.Refusal.the-variants.{BadLine, WrongFrame, OutOfBounds, DeadlineOverSeparation, EdgeNotAfter, NoEnd, BytesAfterEnd, NoSuchVertex, TooManyPaths, WorkTooShort, WitnessTooShort, InputTooLong}
 use Rattle.kinds.specs.declared.Verdict.{Verdict}
 use Rattle.kinds.specs.declared.Verdict.the-variants.{Meets, Misses, Unfinished, Refused}
-use Rattle.kinds.specs.Numbers.{refusalNumber, refusalOf, verdictNumbers}
+use Rattle.kinds.specs.Numbers.{refusalNumber, verdictNumbers}
 use lib.ListN.{getD}
+
+-- the refusal with number n, none beyond the sheet
+abbrev pub refusalOf : ℕ → Refusal
+refusalOf n =
+    getD
+    (BadLine ∷ BadLine ∷ WrongFrame ∷ OutOfBounds ∷ DeadlineOverSeparation ∷ EdgeNotAfter ∷ NoEnd ∷ BytesAfterEnd ∷ NoSuchVertex ∷ TooManyPaths ∷ WorkTooShort ∷ WitnessTooShort ∷ InputTooLong ∷ [])
+    n BadLine
 
 pub refusal-of-number : (r : Refusal) → refusalOf (refusalNumber r) ≡ r
 refusal-of-number BadLine = refl
@@ -23,8 +31,34 @@ refusal-of-number WorkTooShort = refl
 refusal-of-number WitnessTooShort = refl
 refusal-of-number InputTooLong = refl
 
+pub number-some : (r : Refusal) → 1 ≤ refusalNumber r
+number-some BadLine = omega arith
+number-some WrongFrame = omega arith
+number-some OutOfBounds = omega arith
+number-some DeadlineOverSeparation = omega arith
+number-some EdgeNotAfter = omega arith
+number-some NoEnd = omega arith
+number-some BytesAfterEnd = omega arith
+number-some NoSuchVertex = omega arith
+number-some TooManyPaths = omega arith
+number-some WorkTooShort = omega arith
+number-some WitnessTooShort = omega arith
+number-some InputTooLong = omega arith
+
 pub same-refusal : (r s : Refusal) → refusalNumber r ≡ refusalNumber s → r ≡ s
 same-refusal r s q = sym (refusal-of-number r) ∙ ap refusalOf q ∙ refusal-of-number s
+
+-- the text's rows, 1 to 7
+pub number-of-refusal : (k : ℕ) → 1 ≤ k → k ≤ 7 → refusalNumber (refusalOf k) ≡ k
+number-of-refusal zero l h = absurd (omega arith)
+number-of-refusal (suc zero) l h = refl
+number-of-refusal (suc (suc zero)) l h = refl
+number-of-refusal (suc (suc (suc zero))) l h = refl
+number-of-refusal (suc (suc (suc (suc zero)))) l h = refl
+number-of-refusal (suc (suc (suc (suc (suc zero))))) l h = refl
+number-of-refusal (suc (suc (suc (suc (suc (suc zero)))))) l h = refl
+number-of-refusal (suc (suc (suc (suc (suc (suc (suc zero))))))) l h = refl
+number-of-refusal (suc (suc (suc (suc (suc (suc (suc (suc k)))))))) l h = absurd (omega arith)
 
 -- a verdict from its numbers
 abbrev verdictOf : List ℕ → Verdict

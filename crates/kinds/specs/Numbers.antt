@@ -1,7 +1,6 @@
--- The document's number and values of each case. Assumes nothing.
+-- The document's number and values of each case.
 use Prim.Native.Nat.{ℕ}
 use mathlib.Core.List.{List, [], _∷_}
-use lib.ListN.{getD}
 use Rattle.kinds.specs.declared.Refusal.{Refusal}
 use Rattle.kinds.specs.declared.Refusal.the-variants.{BadLine, WrongFrame, OutOfBounds, DeadlineOverSeparation, EdgeNotAfter, NoEnd, BytesAfterEnd, NoSuchVertex, TooManyPaths, WorkTooShort, WitnessTooShort, InputTooLong}
 use Rattle.kinds.specs.declared.Verdict.{Verdict}
@@ -21,13 +20,6 @@ refusalNumber TooManyPaths = 9
 refusalNumber WorkTooShort = 10
 refusalNumber WitnessTooShort = 11
 refusalNumber InputTooLong = 12
-
--- the refusal with number n, none beyond the sheet
-abbrev pub refusalOf : ℕ → Refusal
-refusalOf n =
-    getD
-    (BadLine ∷ BadLine ∷ WrongFrame ∷ OutOfBounds ∷ DeadlineOverSeparation ∷ EdgeNotAfter ∷ NoEnd ∷ BytesAfterEnd ∷ NoSuchVertex ∷ TooManyPaths ∷ WorkTooShort ∷ WitnessTooShort ∷ InputTooLong ∷ [])
-    n BadLine
 
 -- the desk's 0 to 3, then the values: the count; the count and the cells written; the budget; the refusal's number and its place
 abbrev pub verdictNumbers : Verdict → List ℕ

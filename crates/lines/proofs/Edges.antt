@@ -1,4 +1,4 @@
--- An edge's line, and the lines of a task's edges, are read as they mean. Assumes nothing.
+-- An edge's line, and the lines of a task's edges, are read as they mean.
 use mathlib.Core.Path.{_≡_, refl, ap, _∙_}
 use Prim.Native.Nat.{ℕ, zero, suc, _+_, _*_, _≤_}
 use native.Mathlib.Omega.{arith}
@@ -11,7 +11,8 @@ use Rattle.kinds.specs.declared.Refusal.{Refusal}
 use Rattle.kinds.specs.Numbers.{refusalNumber}
 use Rattle.table.specs.declared.Vertex.{Vertex}
 use Rattle.table.specs.declared.Edge.{Edge}
-use Rattle.table.specs.Record.{noEdge, verticesRecord, edgeRecord, edgesRecord, edgeOf}
+use Rattle.table.specs.Record.{noEdge, edgeRecord}
+use Rattle.table.specs.Inner.{verticesRecord, edgesRecord, edgeOf}
 use Rattle.frames.specs.declared.EdgeLine.{EdgeLine}
 use Rattle.frames.specs.declared.EdgeLine.the-variants.{EdgeTaken, EdgeRefused}
 use Rattle.lines.specs.declared.EdgeLines.{EdgeLines}

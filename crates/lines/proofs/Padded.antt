@@ -1,4 +1,4 @@
--- Lists that are filled from the front and padded behind. Assumes nothing.
+-- Lists that are filled from the front and padded behind.
 use Prim.Native.Nat.{ℕ, _<_}
 use mathlib.Core.Path.{_≡_}
 use mathlib.Core.List.{List, [], _∷_, _++_, map}

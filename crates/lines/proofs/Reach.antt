@@ -1,4 +1,4 @@
--- How far a run of lines of eleven bytes reaches: in lines, and in the text. Assumes nothing.
+-- How far a run of lines of eleven bytes reaches: in lines, and in the text.
 use mathlib.Core.Path.{_≡_, ap, _∙_}
 use Prim.Native.Nat.{ℕ, suc, _+_, _*_, _≤_, _<_}
 use native.Mathlib.Omega.{arith}

@@ -1,4 +1,4 @@
--- The lines of a task, its vertices and then its edges, are read as they mean. Assumes nothing.
+-- The lines of a task, its vertices and then its edges, are read as they mean.
 use mathlib.Core.Path.{_≡_, refl, sym, ap, subst, _∙_}
 use Prim.Native.Nat.{ℕ, _+_, _*_, _≤_}
 use native.Mathlib.Omega.{arith}
@@ -10,7 +10,8 @@ use Rattle.meaning.specs.Table as Meant
 use Rattle.meaning.specs.Text.{linesOf, begun, Reading, unreadable, readFrom}
 use Rattle.kinds.specs.declared.Refusal.{Refusal}
 use Rattle.kinds.specs.Numbers.{refusalNumber}
-use Rattle.table.specs.Record.{padded, noVertex, noEdge, verticesRecord, edgesRecord, taskRecord}
+use Rattle.table.specs.Record.{padded, noVertex, noEdge, taskRecord}
+use Rattle.table.specs.Inner.{verticesRecord, edgesRecord}
 use Rattle.lines.specs.declared.Outcome.{Outcome}
 use Rattle.lines.specs.declared.Outcome.the-variants.{AllTaken, StoppedBy}
 use Rattle.lines.specs.declared.VertexLines.{VertexLines}

@@ -1,4 +1,4 @@
--- One turn of each loop over a task's lines, and the whole task. Assumes nothing.
+-- One turn of each loop over a task's lines, and the whole task.
 use mathlib.Core.Path.{_≡_, sym, ap, subst, _∙_}
 use Prim.Native.Nat.{ℕ, suc, _+_, _-_, _*_, _≤_, _<_}
 use native.Mathlib.Omega.{arith}

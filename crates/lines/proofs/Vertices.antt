@@ -1,4 +1,4 @@
--- A vertex's line, and the lines of a task's vertices, are read as they mean. Assumes nothing.
+-- A vertex's line, and the lines of a task's vertices, are read as they mean.
 use mathlib.Core.Path.{_≡_, refl, ap, _∙_}
 use Prim.Native.Nat.{ℕ, zero, suc, _+_, _*_, _≤_}
 use native.Mathlib.Omega.{arith}
@@ -10,7 +10,8 @@ use Rattle.meaning.specs.Text.{linesOf, begun, Reading, unreadable, readFrom}
 use Rattle.kinds.specs.declared.Refusal.{Refusal}
 use Rattle.kinds.specs.Numbers.{refusalNumber}
 use Rattle.table.specs.declared.Vertex.{Vertex}
-use Rattle.table.specs.Record.{noVertex, vertexRecord, verticesRecord, vertexOf}
+use Rattle.table.specs.Record.{noVertex, vertexRecord}
+use Rattle.table.specs.Inner.{verticesRecord, vertexOf}
 use Rattle.frames.specs.declared.VertexLine.{VertexLine}
 use Rattle.frames.specs.declared.VertexLine.the-variants.{VertexTaken, VertexRefused}
 use Rattle.lines.specs.declared.VertexLines.{VertexLines}

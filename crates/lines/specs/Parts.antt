@@ -1,4 +1,4 @@
--- The lines of a task, by their count: its vertices, then its edges. Assumes nothing.
+-- The lines of a task, by their count: its vertices, then its edges.
 use Prim.Native.Nat.{ℕ, zero, suc, _+_, _*_}
 use mathlib.Core.List.{List}
 use lib.ListN.{drop, set, replicate}

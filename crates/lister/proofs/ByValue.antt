@@ -1,4 +1,4 @@
--- A path by value, filled cell by cell. Assumes nothing.
+-- A path by value, filled cell by cell.
 use mathlib.Core.Path.{_≡_, refl, sym, ap, ap₂, _∙_}
 use Prim.Native.Nat.{ℕ, _+_, _<_, _≤_}
 use native.Mathlib.Numerals.{add-one}
@@ -9,7 +9,8 @@ use lib.Seq.{length-take-le, take-suc}
 use Rattle.kinds.specs.declared.VertexNumber.{VertexNumber}
 use Rattle.meaning.specs.Bounds.{largestD}
 use Rattle.meaning.proofs.Lists.{map-append}
-use Rattle.table.specs.Record.{padded, vertexNumber}
+use Rattle.table.specs.Record.{padded}
+use Rattle.table.specs.Inner.{vertexNumber}
 use Rattle.table.proofs.Record.{padded-more}
 use Rattle.lister.specs.declared.Path.{Path}
 use Rattle.lister.specs.Place.{pathRecord}

@@ -1,5 +1,5 @@
--- The loops of `follow` and `count_from`. Assumes nothing.
-use mathlib.Core.Path.{_≡_, refl, sym, ap, ap₂, _∙_}
+-- The loops of `follow` and `count_from`.
+use mathlib.Core.Path.{_≡_, refl, sym, ap, _∙_}
 use Prim.Native.Nat.{ℕ, _+_, _-_, _≤_, _<_, min, max}
 use native.Mathlib.Omega.{arith}
 use mathlib.Core.List.{List}
@@ -17,16 +17,11 @@ pub followed-none : (start to p : List ℕ) (v r : ℕ) → v < mostVertices →
 followed-none start to p v r h l = record { vertex = h; some = l; fewer = omega arith; same = refl }
 
 pub followed-on : {start to p : List ℕ} → SoundColumns start to p → {v r u s j k : ℕ} → Followed start to p v r u s → Turn start u j k
-    → k ≡ getD start u 0 → j ≡ k + 1 → (q u' : ℕ) → q ≡ getD p k 0 → q < s → u' ≡ getD to k 0 → Followed start to p v r u' (s - q)
-followed-on {start} {to} {p} so {v} {r} {u} {s} {j} {k} f g ek one q u' eq room eu =
+    → k ≡ getD start u 0 → j ≡ k + 1 → getD p k 0 < s → Followed start to p v r (getD to k 0) (s - getD p k 0)
+followed-on so {u = u} {s} {j} {k} f g ek one room =
     let w = edge-on so g (omega arith) in
     let a = f .fewer in
-    record {
-      vertex = omega arith;
-      some = omega arith;
-      fewer = omega arith;
-      same = ap₂ (λ (x y : ℕ). length (ways start to p x (s - y))) eu eq ∙ lone-length so u s j k g (f .some) ek one (omega arith) ∙ f .same;
-    }
+    record { vertex = w .1; some = omega arith; fewer = omega arith; same = lone-length so u s j k g (f .some) ek one room ∙ f .same }
 
 -- ---- `count_from`
 
@@ -58,21 +53,21 @@ module _ {start to p : List ℕ} {v r cap end k sum : ℕ} (g : Counting start t
   all-ways : SoundColumns start to p → length (ways start to p v r) ≡ max 1 (length (byEdges start to p r (getD start v 0) end))
   all-ways so = length-ways start to p so v r (g .turn .vertex) (g .some) ∙ ap (λ (n : ℕ). max 1 (length (byEdges start to p r (getD start v 0) n))) (sym (g .turn .ends))
 
-  module _ (u q x : ℕ) (eu : u ≡ getD to k 0) (eq : q ≡ getD p k 0) (h : k < end) (l : q < r) (ex : x ≡ min (cap - sum) (length (ways start to p u (r - q)))) where
-    by-one : length (byEdges start to p r k end) ≡ length (ways start to p u (r - q)) + length (byEdges start to p r (k + 1) end)
-    by-one =
-        length-yes start to p r k end h (omega arith)
-        ∙ ap₂ (λ (a b : ℕ). length (ways start to p a (r - b)) + length (byEdges start to p r (k + 1) end)) (sym eu) (sym eq)
-
+  module _ (x : ℕ) (h : k < end) (l : getD p k 0 < r) (ex : x ≡ min (cap - sum) (length (ways start to p (getD to k 0) (r - getD p k 0)))) where
     pub counting-on : (sum + x ≡ cap → ⊥) → Counting start to p v r cap end (k + 1) (sum + x)
     counting-on ne =
         let b = g .below in
         let c = g .count in
-        let y = by-one in
+        let y = length-yes start to p r k end h l in
         record { turn = turn-next (g .turn) h; some = g .some; below = omega arith; count = omega arith }
 
     pub counting-full : SoundColumns start to p → {w s : ℕ} → Followed start to p w s v r → sum + x ≡ cap → cap ≡ min cap (length (ways start to p w s))
-    counting-full so f full = let e = f .same in let b = g .below in let c = g .count in let y = by-one in omega (arith, all-ways so)
+    counting-full so f full =
+        let e = f .same in
+        let b = g .below in
+        let c = g .count in
+        let y = length-yes start to p r k end h l in
+        omega (arith, all-ways so)
 
   module _ (so : SoundColumns start to p) (hk : end ≤ k) {w s : ℕ} (f : Followed start to p w s v r) where
     all : length (ways start to p w s) ≡ max 1 sum

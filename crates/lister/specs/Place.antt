@@ -1,14 +1,15 @@
--- The path at a place in the order, by value. Assumes nothing.
+-- The path at a place in the order, by value.
 use mathlib.Core.Path.{_≡_}
-use mathlib.Core.Bool.{true, false}
-use Prim.Native.Nat.{ℕ, _+_, _≤_, _<_}
+use Prim.Native.Nat.{ℕ, _+_, _-_, _≤_, _<_}
 use mathlib.Core.List.{List, [], map}
 use lib.ListN.{length, getD}
 use lib.Seq.{sets}
 use Rattle.meaning.specs.Bounds.{largestD}
-use Rattle.table.specs.Record.{padded, vertexNumber}
+use Rattle.table.specs.Record.{padded}
+use Rattle.table.specs.Inner.{vertexNumber}
 use Rattle.lister.specs.declared.Path.{Path}
 use Rattle.lister.specs.declared.place.Sought.{Sought}
+use Rattle.lister.specs.declared.place.Sought.the-variants.{Here, Behind}
 use Rattle.ways.specs.Ways.{ways, verticesBy}
 
 -- a path in an array of zeros, with its length
@@ -19,13 +20,11 @@ pathRecord w = record { vertices = padded largestD (vertexNumber 0) (map vertexN
 -- ---- what `path_from` gives
 
 pub record Hit (to : List ℕ) (v depth : ℕ) (h A B : List ℕ) (s : Sought) : Type 0 where
-  pub found : s .found ≡ true
-  pub end : s .n ≡ depth + 1 + length h
+  pub end : s ≡ Here (depth + 1 + length h)
   pub cells : B ≡ sets A depth (verticesBy to v h)
 
 pub record Miss (i m : ℕ) (A B : List ℕ) (s : Sought) : Type 0 where
-  pub found : s .found ≡ false
-  pub left : s .n + m ≡ i
+  pub left : s ≡ Behind (record { 0 = i - m })
   pub cells : B ≡ A
 
 pub record Found (start to p : List ℕ) (v r depth i : ℕ) (A B : List ℕ) (s : Sought) : Type 0 where

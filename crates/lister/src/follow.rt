@@ -2,7 +2,8 @@
 use bounds::MOST_EDGES;
 use bounds::MOST_VERTICES;
 use columns::numbers::index;
-use columns::numbers::separation;
+use kinds::Ticks;
+use kinds::VertexNumber;
 ghost use Prim.Native.Nat.{_<_};
 ghost use Rattle.meaning.specs.Bounds.{mostVertices};
 ghost use Rattle.columns.specs.Columns.{SoundColumns};
@@ -10,8 +11,8 @@ ghost use Rattle.lister.specs.Follow.{Followed};
 
 // A vertex, and the ticks left there.
 pub(crate) struct Reached {
-    pub v: usize,
-    pub r: usize,
+    pub v: VertexNumber,
+    pub r: Ticks,
 }
 
 // From v with r ticks left, to the first vertex where there is a choice, or no room.
@@ -19,25 +20,26 @@ pub(crate) fn follow(
     start: &[u8; MOST_VERTICES + 1],
     to: &[u8; MOST_EDGES],
     p: &[u16; MOST_EDGES],
-    v: usize,
-    r: usize,
+    v: VertexNumber,
+    r: Ticks,
 ) -> Reached
     requires { ⌜ SoundColumns (now start) (now to) (now p) ⌝ }
-    requires { ⌜ (v < mostVertices) × (0 < r) ⌝ }
-    ensures { λ s. ⌜ Followed (now (start .entry)) (now (to .entry)) (now (p .entry)) v r (s .v) (s .r) ⌝ }
+    requires { ⌜ (v .0 < mostVertices) × (0 < r .0) ⌝ }
+    ensures { λ s. ⌜ Followed (now (start .entry)) (now (to .entry)) (now (p .entry)) (v .0) (r .0) (s .v .0) (s .r .0) ⌝ }
 {
     let mut u = v;
     let mut left = r;
     loop {
-        let k = index(start[u]);
-        if index(start[u + 1]) != k + 1 {
+        let at = u.0 as usize;
+        let k = index(start[at]);
+        if index(start[at + 1]) != k + 1 {
             return Reached { v: u, r: left };
         }
-        let q = separation(p[k]);
-        if left <= q {
+        let q = Ticks(p[k]);
+        if left.0 <= q.0 {
             return Reached { v: u, r: left };
         }
-        left -= q;
-        u = index(to[k]);
+        left = Ticks(left.0 - q.0);
+        u = VertexNumber(to[k]);
     }
 }

@@ -9,6 +9,9 @@ pub mod place;
 use bounds::LARGEST_D;
 use kinds::VertexNumber;
 
+// The place of a path in that order, from 0.
+pub struct PathNumber(pub usize);
+
 // A path kept by value: its vertices in an array of zeros, with their number.
 pub struct Path {
     pub vertices: [VertexNumber; LARGEST_D],

@@ -1,10 +1,11 @@
 // "A path kept by value in an array of 200 zeros with a length, rebuilt from its place in the order."
 use crate::Path;
+use crate::PathNumber;
 use bounds::LARGEST_D;
 use bounds::MOST_EDGES;
 use bounds::MOST_VERTICES;
 use columns::numbers::index;
-use columns::numbers::separation;
+use kinds::Ticks;
 use kinds::VertexNumber;
 ghost use mathlib.Core.Path.{_≡_};
 ghost use Prim.Native.Nat.{_+_, _≤_, _<_};
@@ -15,10 +16,10 @@ ghost use Rattle.columns.specs.Columns.{SoundColumns};
 ghost use Rattle.ways.specs.Ways.{mostCounted, allWays, pathBy};
 ghost use Rattle.lister.specs.Place.{Found, pathRecord};
 
-// Found: n is the path's length. Not found: n of the places are still to pass.
-struct Sought {
-    found: bool,
-    n: usize,
+// The path is among those from a vertex: its length. It is behind them: its place there.
+enum Sought {
+    Here(usize),
+    Behind(PathNumber),
 }
 
 // The path of place i of those that go on from v with r ticks left goes to the cells from depth on.
@@ -27,49 +28,45 @@ fn path_from(
     to: &[u8; MOST_EDGES],
     p: &[u16; MOST_EDGES],
     cells: &mut [u8; LARGEST_D],
-    v: usize,
-    r: usize,
+    v: VertexNumber,
+    r: Ticks,
     depth: usize,
-    i: usize,
+    i: PathNumber,
 ) -> Sought
     requires { ⌜ SoundColumns (now start) (now to) (now p) ⌝ }
-    requires { ⌜ (v < mostVertices) × (0 < r) × (depth + r ≤ largestD) × (i ≤ mostCounted) ⌝ }
-    ensures { λ s. ⌜ Found (now (start .entry)) (now (to .entry)) (now (p .entry)) v r depth i (now (cells .entry)) (now (cells .exit)) s ⌝ }
+    requires { ⌜ (v .0 < mostVertices) × (0 < r .0) × (depth + r .0 ≤ largestD) × (i .0 ≤ mostCounted) ⌝ }
+    ensures { λ s. ⌜ Found (now (start .entry)) (now (to .entry)) (now (p .entry)) (v .0) (r .0) depth (i .0) (now (cells .entry)) (now (cells .exit)) s ⌝ }
 {
-    let end = index(start[v + 1]);
-    let mut k = index(start[v]);
+    let at = v.0 as usize;
+    let end = index(start[at + 1]);
+    let mut k = index(start[at]);
     let mut left = i;
     while k < end {
-        let q = separation(p[k]);
-        if r <= q {
+        let q = Ticks(p[k]);
+        if r.0 <= q.0 {
             k += 1;
             continue;
         }
-        let s = path_from(start, to, p, cells, index(to[k]), r - q, depth + 1, left);
-        if s.found {
-            cells[depth] = v as u8;
-            return s;
+        let next = VertexNumber(to[k]);
+        let rest = Ticks(r.0 - q.0);
+        let s = path_from(start, to, p, cells, next, rest, depth + 1, left);
+        match s {
+            Sought::Here(len) => {
+                cells[depth] = v.0;
+                return Sought::Here(len);
+            }
+            Sought::Behind(place) => left = place,
         }
-        left = s.n;
         k += 1;
     }
-    if left != i {
-        return Sought {
-            found: false,
-            n: left,
-        };
+    if left.0 != i.0 {
+        return Sought::Behind(left);
     }
-    if i == 0 {
-        cells[depth] = v as u8;
-        return Sought {
-            found: true,
-            n: depth + 1,
-        };
+    if i.0 == 0 {
+        cells[depth] = v.0;
+        return Sought::Here(depth + 1);
     }
-    Sought {
-        found: false,
-        n: i - 1,
-    }
+    Sought::Behind(PathNumber(i.0 - 1))
 }
 
 // The first cells as a path, with zeros behind it.
@@ -95,23 +92,23 @@ pub fn path_all(
     to: &[u8; MOST_EDGES],
     p: &[u16; MOST_EDGES],
     n: usize,
-    d: usize,
-    i: usize,
+    d: Ticks,
+    i: PathNumber,
 ) -> Path
     requires { ⌜ SoundColumns (now start) (now to) (now p) ⌝ }
-    requires { ⌜ (n ≤ mostVertices) × (0 < d) × (d ≤ largestD) × (i ≤ mostCounted) ⌝ }
-    ensures { λ r. ⌜ r ≡ pathRecord (pathBy (now (to .entry)) (getD (allWays (now (start .entry)) (now (to .entry)) (now (p .entry)) d 0 n) i List.[])) ⌝ }
+    requires { ⌜ (n ≤ mostVertices) × (0 < d .0) × (d .0 ≤ largestD) × (i .0 ≤ mostCounted) ⌝ }
+    ensures { λ r. ⌜ r ≡ pathRecord (pathBy (now (to .entry)) (getD (allWays (now (start .entry)) (now (to .entry)) (now (p .entry)) (d .0) 0 n) (i .0) List.[])) ⌝ }
 {
     let mut cells = [0u8; LARGEST_D];
     let mut left = i;
-    let mut v: usize = 0;
-    while v < n {
+    let mut v = VertexNumber(0);
+    while (v.0 as usize) < n {
         let s = path_from(start, to, p, &mut cells, v, d, 0, left);
-        if s.found {
-            return by_value(&cells, s.n);
+        match s {
+            Sought::Here(len) => return by_value(&cells, len),
+            Sought::Behind(place) => left = place,
         }
-        left = s.n;
-        v += 1;
+        v = VertexNumber(v.0 + 1);
     }
     by_value(&cells, 0)
 }

@@ -1,4 +1,4 @@
--- The rows of all complete paths, from every vertex. Assumes nothing.
+-- The rows of all complete paths, from every vertex.
 use mathlib.Core.Path.{_≡_, refl, sym, ap, ap₂, subst, _∙_}
 use Prim.Native.Nat.{ℕ, _+_, _-_, _≤_, _<_}
 use native.Mathlib.Omega.{arith}

@@ -1,3 +1,4 @@
+pub mod RowLoads
 pub mod PutRows
 pub mod AllRows
 pub mod FollowingRows

@@ -1,4 +1,4 @@
--- The rows of the ways on from a vertex, put one after another. Assumes nothing.
+-- The rows of the ways on from a vertex, put one after another.
 use mathlib.Core.Path.{_≡_, refl, sym, ap, ap₂, subst, _∙_}
 use Prim.Native.Nat.{ℕ, suc, _+_, _-_, _*_, _≤_, _<_}
 use native.Mathlib.Nat.{add-zero, add-mul, le-trans, mul-le-mul-right}
@@ -132,15 +132,13 @@ module _ {e start to p : List ℕ} {d v span below i end : ℕ} {P row₀ part r
         size = ap length eQ ∙ put-length (R (onBy k H)) d n part ∙ g .size;
       }
 
-  pub going-on : (u q S : ℕ) → u ≡ getD to k 0 → q ≡ getD p k 0 → S ≡ below + getD e v 0 → k < end → span + q < d → d ≤ largestD
-      → (row1 : List ℕ) → Run row span (span + q) S row1
-      → (Q qrow : List ℕ) (r : ℕ) → RowsPut e start to p d u (span + q) S n part row1 Q qrow r
+  pub going-on : (S : ℕ) → S ≡ below + getD e v 0 → k < end → span + getD p k 0 < d → d ≤ largestD
+      → (row1 : List ℕ) → Run row span (span + getD p k 0) S row1
+      → (Q qrow : List ℕ) (r : ℕ) → RowsPut e start to p d (getD to k 0) (span + getD p k 0) S n part row1 Q qrow r
       → Going e start to p d v span below i end P row₀ Q qrow (k + 1) r
-  going-on u q S eu eq eS h l lp row1 ep Q qrow r f =
-      going-by h (omega arith) lp row1 (ep .cells ∙ ap₂ (λ (a b : ℕ). sets row span (replicate (span + a - span) b)) eq eS) Q qrow r
-      (subst (λ (a : ℕ). RowsPut e start to p d (getD to k 0) (span + getD p k 0) a n part row1 Q qrow r) eS
-      (subst (λ (a : ℕ). RowsPut e start to p d (getD to k 0) (span + a) S n part row1 Q qrow r) eq
-      (subst (λ (a : ℕ). RowsPut e start to p d a (span + q) S n part row1 Q qrow r) eu f)))
+  going-on S eS h l lp row1 ep Q qrow r f =
+      going-by h l lp row1 (ep .cells ∙ ap (λ (b : ℕ). sets row span (replicate (span + getD p k 0 - span) b)) eS) Q qrow r
+      (subst (λ (b : ℕ). RowsPut e start to p d (getD to k 0) (span + getD p k 0) b n part row1 Q qrow r) eS f)
 
   step : SoundColumns start to p → ways start to p v (d - span) ≡ orStop (byEdges start to p (d - span) (getD start v 0) end)
   step so =
@@ -148,19 +146,18 @@ module _ {e start to p : List ℕ} {d v span below i end : ℕ} {P row₀ part r
       ways-step start to p so v (d - span) (g .turn .vertex) (omega arith) ∙ ap (λ (m : ℕ). orStop (byEdges start to p (d - span) (getD start v 0) m)) (sym (g .turn .ends))
 
   -- there is room for the rows of the edge at k, where there is for those from w, which led here
-  pub going-room : (u q : ℕ) → u ≡ getD to k 0 → q ≡ getD p k 0 → SoundColumns start to p → k < end → span + q < d
+  pub going-room : SoundColumns start to p → k < end → span + getD p k 0 < d
       → {w s b b' : ℕ} {R R' : List ℕ} → FollowedRow e start to p d w s b R v span b' R'
-      → Room d (i + length (ways start to p w (d - s))) (length P) → Room d (n + length (ways start to p u (d - (span + q)))) (length part)
-  going-room u q eu eq so h l f r =
-      let z : d - (span + q) ≡ d - span - getD p k 0 = omega arith in
-      let a : length (ways start to p u (d - (span + q))) ≡ length (ways start to p (getD to k 0) (d - span - getD p k 0)) =
-      ap₂ (λ (x y : ℕ). length (ways start to p x y)) eu z in
+      → Room d (i + length (ways start to p w (d - s))) (length P) → Room d (n + length (ways start to p (getD to k 0) (d - (span + getD p k 0)))) (length part)
+  going-room so h l f r =
+      let z : d - (span + getD p k 0) ≡ d - span - getD p k 0 = omega arith in
+      let a = ap (λ (m : ℕ). length (ways start to p (getD to k 0) m)) z in
       let y = length-yes start to p (d - span) k end h (omega arith) in
       let x = ap length (step so) ∙ orStop-length (byEdges start to p (d - span) (getD start v 0) end) in
       let c = g .count in
       let e = f .same in
-      subst (λ (m : ℕ). Room d (n + length (ways start to p u (d - (span + q)))) m) (sym (g .size))
-      (room-less d _ (n + length (ways start to p u (d - (span + q)))) (length P) r (omega arith))
+      subst (λ (m : ℕ). Room d (n + length (ways start to p (getD to k 0) (d - (span + getD p k 0)))) m) (sym (g .size))
+      (room-less d _ (n + length (ways start to p (getD to k 0) (d - (span + getD p k 0)))) (length P) r (omega arith))
 
   module _ (so : SoundColumns start to p) (hk : end ≤ k) where
     pub done-rows : part ≡ putRows d i (rowsBehind e to p (take span row₀) (d - span) below v (byEdges start to p (d - span) (getD start v 0) end)) P

@@ -1,4 +1,4 @@
--- The rows of the complete paths' loads in a stretch. Assumes nothing.
+-- The rows of the complete paths' loads in a stretch.
 use mathlib.Core.Path.{_≡_}
 use Prim.Native.Nat.{ℕ, _+_, _-_, _*_, _≤_}
 use mathlib.Core.List.{List, [], _∷_, _++_, map}
@@ -8,7 +8,12 @@ use Rattle.meaning.specs.Bounds.{largestD}
 use Rattle.ways.specs.Ways.{mostCounted, ways}
 use Rattle.ways.specs.Runs.{runs}
 
--- the cells of a row from a up to b have become x
+-- a row's loads at t from 1 on: that at t is in cell t
+unfoldable pub loadsIn : List ℕ → List ℕ
+loadsIn [] = []
+loadsIn (x ∷ xs) = xs
+
+-- the loads from a up to b have become x
 pub record Run (row : List ℕ) (a b x : ℕ) (after : List ℕ) : Type 0 where
   pub cells : after ≡ sets row a (replicate (b - a) x)
 

@@ -5,60 +5,64 @@ use bounds::MOST_EDGES;
 use bounds::MOST_VERTICES;
 use columns::numbers::execution;
 use columns::numbers::index;
-use columns::numbers::separation;
+use kinds::Ticks;
+use kinds::VertexNumber;
 ghost use Prim.Native.Nat.{_*_, _≤_, _<_};
 ghost use mathlib.Core.Path.{_≡_};
 ghost use lib.ListN.{length};
 ghost use Rattle.meaning.specs.Bounds.{mostVertices, largestD};
 ghost use Rattle.columns.specs.Columns.{widest, SoundColumns};
+ghost use Rattle.loads.specs.Rows.{loadsIn};
 ghost use Rattle.loads.specs.Follow.{FollowedRow};
 
 // A vertex, the span up to it, and the total e up to there, without its own.
 pub(crate) struct Begun {
-    pub v: usize,
-    pub span: usize,
+    pub v: VertexNumber,
+    pub span: Ticks,
     pub below: u32,
 }
 
 // From v at span, to the first vertex where there is a choice, or no room below d; the row gets the loads of what is followed.
 pub(crate) fn follow_row(
-    row: &mut [u32; LARGEST_D],
-    d: usize,
+    row: &mut [u32; LARGEST_D + 1],
+    d: Ticks,
     e: &[u16; MOST_VERTICES],
     start: &[u8; MOST_VERTICES + 1],
     to: &[u8; MOST_EDGES],
     p: &[u16; MOST_EDGES],
-    v: usize,
-    span: usize,
+    v: VertexNumber,
+    span: Ticks,
     below: u32,
 ) -> Begun
     requires { ⌜ SoundColumns (now start) (now to) (now p) ⌝ }
-    requires { ⌜ (v < mostVertices) × (span < d) × (d ≤ largestD) × (below ≤ widest * span) × (length (now row) ≡ largestD) ⌝ }
-    ensures { λ s. ⌜ FollowedRow (now (e .entry)) (now (start .entry)) (now (to .entry)) (now (p .entry)) d v span below (now (row .entry)) (s .v) (s .span) (s .below) (now (row .exit)) ⌝ }
+    requires { ⌜ (v .0 < mostVertices) × (span .0 < d .0) × (d .0 ≤ largestD) × (below ≤ widest * span .0) × (length (loadsIn (now row)) ≡ largestD) ⌝ }
+    ensures { λ s. ⌜ FollowedRow (now (e .entry)) (now (start .entry)) (now (to .entry)) (now (p .entry)) (d .0) (v .0) (span .0) below (loadsIn (now (row .entry))) (s .v .0) (s .span .0) (s .below) (loadsIn (now (row .exit))) ⌝ }
 {
     let mut u = v;
     let mut at = span;
     let mut total = below;
     loop {
-        let k = index(start[u]);
-        if index(start[u + 1]) != k + 1 {
+        let w = u.0 as usize;
+        let k = index(start[w]);
+        if index(start[w + 1]) != k + 1 {
             return Begun {
                 v: u,
                 span: at,
                 below: total,
             };
         }
-        let next = at + separation(p[k]);
-        if d <= next {
+        let q = Ticks(p[k]);
+        if d.0 - at.0 <= q.0 {
             return Begun {
                 v: u,
                 span: at,
                 below: total,
             };
         }
-        total += execution(e[u]);
+        let next = Ticks(at.0 + q.0);
+        total += execution(e[w]);
         fill_run(row, at, next, total);
         at = next;
-        u = index(to[k]);
+        u = VertexNumber(to[k]);
     }
 }

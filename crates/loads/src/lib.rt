@@ -10,8 +10,9 @@ use bounds::MOST_EDGES;
 use bounds::MOST_VERTICES;
 use columns::numbers::execution;
 use columns::numbers::index;
-use columns::numbers::separation;
 use follow::follow_row;
+use kinds::Ticks;
+use kinds::VertexNumber;
 use runs::copy_row;
 use runs::fill_run;
 ghost use mathlib.Core.Path.{_≡_};
@@ -20,49 +21,51 @@ ghost use lib.ListN.{length};
 ghost use Rattle.meaning.specs.Bounds.{mostVertices, largestD};
 ghost use Rattle.columns.specs.Columns.{widest, SoundColumns};
 ghost use Rattle.ways.specs.Ways.{ways, allWays};
-ghost use Rattle.loads.specs.Rows.{Room, RowsPut, putRows};
+ghost use Rattle.loads.specs.Rows.{loadsIn, Room, RowsPut, putRows};
 ghost use Rattle.ways.specs.Runs.{wayRows};
 
 // The rows of all complete paths that go on from v at span, of which the first has place i. The row holds the loads up to span, and below is the
 // total e up to there, without v. Gives the next place.
 fn rows_from(
     part: &mut [u32],
-    d: usize,
+    d: Ticks,
     e: &[u16; MOST_VERTICES],
     start: &[u8; MOST_VERTICES + 1],
     to: &[u8; MOST_EDGES],
     p: &[u16; MOST_EDGES],
-    row: &mut [u32; LARGEST_D],
-    v: usize,
-    span: usize,
+    row: &mut [u32; LARGEST_D + 1],
+    v: VertexNumber,
+    span: Ticks,
     below: u32,
     i: usize,
 ) -> usize
     requires { ⌜ SoundColumns (now start) (now to) (now p) ⌝ }
-    requires { ⌜ (v < mostVertices) × (span < d) × (d ≤ largestD) × (below ≤ widest * span) × (length (now row) ≡ largestD) ⌝ }
-    requires { ⌜ Room d (i + length (ways (now start) (now to) (now p) v (d - span))) (length (now part)) ⌝ }
-    ensures { λ r. ⌜ RowsPut (now (e .entry)) (now (start .entry)) (now (to .entry)) (now (p .entry)) d v span below i (now (part .entry)) (now (row .entry)) (now (part .exit)) (now (row .exit)) r ⌝ }
+    requires { ⌜ (v .0 < mostVertices) × (span .0 < d .0) × (d .0 ≤ largestD) × (below ≤ widest * span .0) × (length (loadsIn (now row)) ≡ largestD) ⌝ }
+    requires { ⌜ Room (d .0) (i + length (ways (now start) (now to) (now p) (v .0) (d .0 - span .0))) (length (now part)) ⌝ }
+    ensures { λ r. ⌜ RowsPut (now (e .entry)) (now (start .entry)) (now (to .entry)) (now (p .entry)) (d .0) (v .0) (span .0) below i (now (part .entry)) (loadsIn (now (row .entry))) (now (part .exit)) (loadsIn (now (row .exit))) r ⌝ }
 {
     let s = follow_row(row, d, e, start, to, p, v, span, below);
-    let u = s.v;
+    let u = s.v.0 as usize;
     let at = s.span;
     let total = s.below + execution(e[u]);
     let end = index(start[u + 1]);
     let mut k = index(start[u]);
     let mut n = i;
     while k < end {
-        let next = at + separation(p[k]);
-        if d <= next {
+        let q = Ticks(p[k]);
+        if d.0 - at.0 <= q.0 {
             k += 1;
             continue;
         }
+        let next = Ticks(at.0 + q.0);
         fill_run(row, at, next, total);
-        n = rows_from(part, d, e, start, to, p, row, index(to[k]), next, total, n);
+        let w = VertexNumber(to[k]);
+        n = rows_from(part, d, e, start, to, p, row, w, next, total, n);
         k += 1;
     }
     if n == i {
         fill_run(row, at, d, total);
-        copy_row(part, 2 * i * d, row, d);
+        copy_row(part, 2 * i * (d.0 as usize), row, d);
         return i + 1;
     }
     n
@@ -71,7 +74,7 @@ fn rows_from(
 // The row of the path of place i is row 2i of the part, each of d cells; the rows between are unchanged. Gives how many paths there are.
 pub fn rows_all(
     part: &mut [u32],
-    d: usize,
+    d: Ticks,
     e: &[u16; MOST_VERTICES],
     start: &[u8; MOST_VERTICES + 1],
     to: &[u8; MOST_EDGES],
@@ -79,17 +82,17 @@ pub fn rows_all(
     n: usize,
 ) -> usize
     requires { ⌜ SoundColumns (now start) (now to) (now p) ⌝ }
-    requires { ⌜ (n ≤ mostVertices) × (0 < d) × (d ≤ largestD) ⌝ }
-    requires { ⌜ Room d (length (allWays (now start) (now to) (now p) d 0 n)) (length (now part)) ⌝ }
-    ensures { λ r. ⌜ (r ≡ length (allWays (now (start .entry)) (now (to .entry)) (now (p .entry)) d 0 n))
-        × (now (part .exit) ≡ putRows d 0 (wayRows (now (e .entry)) (now (to .entry)) (now (p .entry)) d (allWays (now (start .entry)) (now (to .entry)) (now (p .entry)) d 0 n)) (now (part .entry))) ⌝ }
+    requires { ⌜ (n ≤ mostVertices) × (0 < d .0) × (d .0 ≤ largestD) ⌝ }
+    requires { ⌜ Room (d .0) (length (allWays (now start) (now to) (now p) (d .0) 0 n)) (length (now part)) ⌝ }
+    ensures { λ r. ⌜ (r ≡ length (allWays (now (start .entry)) (now (to .entry)) (now (p .entry)) (d .0) 0 n))
+        × (now (part .exit) ≡ putRows (d .0) 0 (wayRows (now (e .entry)) (now (to .entry)) (now (p .entry)) (d .0) (allWays (now (start .entry)) (now (to .entry)) (now (p .entry)) (d .0) 0 n)) (now (part .entry))) ⌝ }
 {
-    let mut row = [0u32; LARGEST_D];
+    let mut row = [0u32; LARGEST_D + 1];
     let mut i: usize = 0;
-    let mut v: usize = 0;
-    while v < n {
-        i = rows_from(part, d, e, start, to, p, &mut row, v, 0, 0, i);
-        v += 1;
+    let mut v = VertexNumber(0);
+    while (v.0 as usize) < n {
+        i = rows_from(part, d, e, start, to, p, &mut row, v, Ticks(0), 0, i);
+        v = VertexNumber(v.0 + 1);
     }
     i
 }

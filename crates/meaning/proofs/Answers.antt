@@ -1,24 +1,27 @@
--- What each answer to a readable text says of the vertex. Assumes nothing.
+-- What each answer to a readable text says of the vertex.
 use mathlib.Core.Path.{_≡_, refl, sym, ap, subst, _∙_}
 use Prim.Native.Nat.{ℕ, _-_, _*_, _≤_, _<_}
 use native.Mathlib.Nat.{le-trans}
 use native.Mathlib.Omega.{arith}
 use mathlib.Core.Option.{Option, none, some}
-use mathlib.Core.List.{List, map}
-use lib.ListN.{length}
-use Rattle.meaning.specs.Lists.{product}
-use Rattle.meaning.specs.Table.{Task, Table, higher}
+use mathlib.Core.List.{List}
+use Rattle.meaning.specs.Table.{Table, higher}
 use Rattle.meaning.specs.Text.{readable, read}
-use Rattle.meaning.specs.Paths.{Path, pathsOf}
+use Rattle.meaning.specs.Paths.{Path}
+use Rattle.meaning.specs.Groups.{P}
 use Rattle.meaning.specs.Verdict.{meets, misses, unfinished, Listed, loadOf, topOf, ownE, deadline, pathsIn, decided}
-use Rattle.meaning.specs.Judge.{judged, answer}
+use Rattle.meaning.specs.Judge.{refusal, judged, answer}
 use Rattle.meaning.specs.Sound.{AllSound, SoundTable}
-use Rattle.meaning.specs.Demands.{Overloadable, First, C, Admitted, Given}
+use Rattle.meaning.specs.Demands.{Overloadable, First, C}
 use Rattle.meaning.proofs.Lists.{mem-take}
 use Rattle.meaning.proofs.Few.{count-P}
-use Rattle.meaning.proofs.Choices.{top-full, top-P}
+use Rattle.meaning.proofs.Choices.{top-full}
 use Rattle.meaning.proofs.Refusals.{larger-none}
-use Rattle.meaning.proofs.Verdicts.{W, witness-has, witness-first, first-overloads, decided-misses, decided-meets, judged-enough, judged-short, judged-given, judged-unfinished}
+use Rattle.meaning.proofs.Verdicts.{W, Given, witness-has, witness-first, first-overloads, decided-misses, decided-meets, judged-enough, judged-short, judged-given, judged-unfinished}
+
+-- no refusal of 8 to 11 applies
+abbrev pub Admitted : Table → ℕ → ℕ → ℕ → ℕ → Type 0
+Admitted ts i v work wit = refusal ts i v work wit ≡ none
 
 pub sound-higher : (ts : Table) (i : ℕ) → SoundTable ts → AllSound (higher ts i)
 sound-higher ts i s k m = s .eachTask k (mem-take i ts m)
@@ -30,7 +33,7 @@ module _ (text : List ℕ) (ts : Table) (q : read text ≡ readable ts) (i v : �
   pub short-unfinished : (b work wit : ℕ) → Admitted ts i v work wit → b < C ts i v → answer text i v b work wit ≡ unfinished b
   short-unfinished b work wit r h = answer-is b work wit ∙ judged-short ts i v b work wit r h
 
-  pub unfinished-short : (b work wit n : ℕ) → answer text i v b work wit ≡ unfinished n → b < C ts i v
+  pub unfinished-short : (b work wit n : ℕ) → answer text i v b work wit ≡ unfinished n → (n ≡ b) × (b < C ts i v)
   unfinished-short b work wit n a = judged-unfinished ts i v b work wit n (sym (answer-is b work wit) ∙ a)
 
   -- once given, for good
@@ -65,7 +68,5 @@ module _ (text : List ℕ) (ts : Table) (q : read text ≡ readable ts) (i v : �
         free none e = e
         free (some x) e = absurd (n (first-overloads ts i v s (pathsIn x) (witness-first ts i v s x e)))
 
-    pub few-groups : C ts i v ≤ 2 * product (map (λ (k : Task). length (pathsOf k (deadline ts i v))) (higher ts i)) - 1
-    few-groups =
-        subst (λ (n : ℕ). C ts i v ≤ 2 * n - 1) (top-P (deadline ts i v) (higher ts i))
-        (count-P loadOf (ownE ts i v) (deadline ts i v) (topOf (higher ts i) (deadline ts i v)) (top-full (deadline ts i v) (higher ts i) s))
+    pub few-groups : C ts i v ≤ 2 * P (topOf (higher ts i) (deadline ts i v)) - 1
+    few-groups = count-P loadOf (ownE ts i v) (deadline ts i v) (topOf (higher ts i) (deadline ts i v)) (top-full (deadline ts i v) (higher ts i) s)

@@ -1,4 +1,4 @@
--- The bench examples hold, computed by the checker. Assumes nothing.
+-- The bench examples hold, computed by the checker.
 use Rattle.meaning.specs.Paths.{completePaths}
 use Rattle.meaning.specs.Judge.{judged}
 use Rattle.meaning.specs.Desk.{output}

@@ -1,23 +1,27 @@
--- Choices among listed paths, as the groups have them, and as the demands do: one path of each task. Assumes nothing.
+-- Choices among listed paths, as the groups have them, and as the demands do: one path of each task.
 use mathlib.Core.Path.{_≡_, refl, ap, ap₂, subst, subst₂}
-use Prim.Native.Nat.{ℕ, _+_, _*_, _≤_}
+use Prim.Native.Nat.{ℕ, _+_, _≤_}
 use native.Mathlib.Nat.{le-refl}
 use native.Mathlib.Omega.{arith}
 use mathlib.Core.Logic.{inl, inr}
 use mathlib.Core.List.{List, [], _∷_, map, List·Memᴰ, List·Memᴰ·head, List·Memᴰ·tail, Memᴰ·map, Memᴰ·of-map}
 use lib.ListN.{length, length-map}
 use lib.Dec.{T, ltb, lt→ltb}
-use Rattle.meaning.specs.Lists.{gather, product, Rising}
+use Rattle.meaning.specs.Lists.{gather, Rising}
 use Rattle.meaning.specs.Table.{Task}
-use Rattle.meaning.specs.Paths.{Path, load, pathsOf, Before}
-use Rattle.meaning.specs.Groups.{choiceLoads, choices, In, P}
+use Rattle.meaning.specs.Paths.{Path, legal, load, pathsOf, Before}
+use Rattle.meaning.specs.Groups.{choiceLoads, choices}
 use Rattle.meaning.specs.Verdict.{Listed, loadOf, listed, topOf, pathsIn}
 use Rattle.meaning.specs.Sound.{AllSound}
-use Rattle.meaning.specs.Demands.{Legals, Completes, loadsAt, ChoiceBefore}
+use Rattle.meaning.specs.Demands.{EachOf, Completes, loadsAt, ChoiceBefore}
 use Rattle.meaning.proofs.Lists.{both, gather-mem}
 use Rattle.meaning.proofs.Rising.{rising-one, rising-append}
-use Rattle.meaning.proofs.Groups.{full}
+use Rattle.meaning.proofs.Groups.{In, full}
 use Rattle.meaning.proofs.PathsOf.{paths-legal, paths-rising, paths-some, paths-suffice}
+
+-- a legal path of each, of any length
+abbrev pub Legals : List Task → List Path → Type 0
+Legals ks ws = EachOf (λ (k : Task) (w : Path). T (legal k w)) ks ws
 
 abbrev put : Task → Path → Listed
 put k w = record { task = k; path = w }
@@ -110,7 +114,3 @@ top-full d (k ∷ ks) s =
     both (ltb 0 (length (listed d k))) (full (topOf ks d))
     (lt→ltb 0 (length (listed d k)) (rw length-map (paths-some k (s k (List·Memᴰ·head refl)) d)))
     (top-full d ks (λ j m. s j (List·Memᴰ·tail m)))
-
-pub top-P : (d : ℕ) (ks : List Task) → P (topOf ks d) ≡ product (map (λ (k : Task). length (pathsOf k d)) ks)
-top-P d [] = refl
-top-P d (k ∷ ks) = ap₂ _*_ (length-map (pathsOf k d) (put k)) (top-P d ks)

@@ -1,4 +1,4 @@
--- The list of complete paths has exactly the legal paths that are complete, each of at most d vertices. Assumes nothing.
+-- The list of complete paths has exactly the legal paths that are complete, each of at most d vertices.
 use mathlib.Core.Path.{_≡_, refl, sym, ap, subst, _∙_}
 use Prim.Native.Nat.{ℕ, zero, suc, _+_, _-_, _≤_, _<_, zero-le}
 use native.Mathlib.Nat.{le-refl}
@@ -11,7 +11,7 @@ use lib.ListN.{length}
 use lib.Dec.{T, ltb, leb, ltb→lt, lt→ltb, leb→le, le→leb}
 use Rattle.meaning.specs.Lists.{all, those, gather, Rising}
 use Rattle.meaning.specs.Table.{Edge, Task}
-use Rattle.meaning.specs.Paths.{Path, separation, outOf, between, someEdge, pathsFrom, completePaths, linked, legal, spanOn, lastOn, complete, Before}
+use Rattle.meaning.specs.Paths.{Path, separation, outOf, between, pathsFrom, completePaths, linked, legal, spanOn, lastOn, complete, Before}
 use Rattle.meaning.proofs.Lists.{both, both-left, both-right, all-mem, mem-all, those-mem}
 use Rattle.meaning.proofs.Rising.{rising-same}
 use Rattle.meaning.proofs.Edges.{Spaced, Fanned, link-edge, on-by, out-spaced, separation-is}
@@ -51,7 +51,7 @@ module _ (k : Task) (sp : Spaced k) where
   lists zero room v w h f = absurd (omega (arith, f .short))
   lists (suc n) room v [] h f = alone-nil v (onward k n room v) (stuck-nil k n room v (f .last))
   lists (suc n) room v (u ∷ w) h f =
-      go (link-edge k v u (both-left (someEdge (between k v u)) (linked k u w) (f .links))) (λ x a b. lists n (room - x .p) u w a b)
+      go (link-edge k v u (both-left (ltb 0 (length (between k v u))) (linked k u w) (f .links))) (λ x a b. lists n (room - x .p) u w a b)
     where
       go : (x : Edge) × List·Memᴰ x (outOf k v) × (x .to ≡ u) × (x .p ≡ separation k v u)
           → ((x : Edge) → room - x .p ≤ n → Fits k (room - x .p) u w → List·Memᴰ (u ∷ w) (pathsFrom k n (room - x .p) u)) → List·Memᴰ (v ∷ u ∷ w) (pathsFrom k (suc n) room v)
@@ -59,7 +59,7 @@ module _ (k : Task) (sp : Spaced k) where
           let one : 1 ≤ x .p = out-spaced k sp v m in
           let short = f .short in
           let rest = ih x (omega arith) (record {
-            links = both-right (someEdge (between k v u)) (linked k u w) (f .links);
+            links = both-right (ltb 0 (length (between k v u))) (linked k u w) (f .links);
             short = omega arith;
             last = λ y j. omega (arith, f .last y j);
           }) in
@@ -92,8 +92,8 @@ module _ (k : Task) (sp : Spaced k) where
   span-length : (u : ℕ) (w : Path) → T (linked k u w) → length w ≤ spanOn k u w
   span-length u [] l = zero-le
   span-length u (v ∷ w) l =
-      let x = link-edge k u v (both-left (someEdge (between k u v)) (linked k v w) l) in
-      omega (arith, out-spaced k sp u (x .1), x .3, span-length v w (both-right (someEdge (between k u v)) (linked k v w) l))
+      let x = link-edge k u v (both-left (ltb 0 (length (between k u v))) (linked k v w) l) in
+      omega (arith, out-spaced k sp u (x .1), x .3, span-length v w (both-right (ltb 0 (length (between k u v))) (linked k v w) l))
 
 -- ---- by the definition's tests
 

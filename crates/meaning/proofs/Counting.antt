@@ -1,4 +1,4 @@
--- C, as document 01 defines it, is what the recursion over the sides sees. Assumes nothing.
+-- C, as document 01 defines it, is what the recursion over the sides sees.
 use mathlib.Core.Path.{_≡_, refl, sym, ap, ap₂, _∙_}
 use Prim.Native.Nat.{ℕ, zero, suc, _+_}
 use native.Mathlib.Omega.{arith}
@@ -8,7 +8,8 @@ use mathlib.Core.List.{List, [], _∷_, _++_, map}
 use lib.ListN.{length, length-append}
 use lib.Dec.{T}
 use Rattle.meaning.specs.Lists.{all, those, upTo, sum}
-use Rattle.meaning.specs.Groups.{overloads, single, firstChild, secondChild, Placed, groupsFrom, isWitness, count}
+use Rattle.meaning.specs.Groups.{overloads, single, Placed, groupsFrom, isWitness, count}
+use Rattle.meaning.specs.Walk.{firstChild, secondChild}
 use Rattle.meaning.proofs.Lists.{and-false}
 use Rattle.meaning.proofs.Firsts.{any, any-append, upTo-in, upTo-out, upTo-all, those-append, noneOf, noneOf-append, none-kept, orElse}
 use Rattle.meaning.proofs.Groups.{first-part, second-part, quiet-child}

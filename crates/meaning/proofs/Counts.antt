@@ -1,4 +1,4 @@
--- A whole table's four counts: they add up, and more budget never lowers the first two. Assumes nothing.
+-- A whole table's four counts: they add up, and more budget never lowers the first two.
 use mathlib.Core.Path.{_≡_, refl, ap₂, _∙_}
 use Prim.Native.Nat.{ℕ, suc, _+_, _*_, _≤_, _<_}
 use native.Mathlib.Nat.{le-refl}
@@ -8,22 +8,24 @@ use mathlib.Core.Bool.{Bool, true, false}
 use mathlib.Core.Option.{Option, none, some}
 use mathlib.Core.List.{List, [], _∷_, map, List·Memᴰ·head, List·Memᴰ·tail}
 use lib.ListN.{length, length-map, length-append}
-use lib.Dec.{T, eqb, eqb→eq}
+use lib.Dec.{T, ltb, eqb, eqb→eq}
 use borrow.Author.Tests.{lt-ltb, le-ltb}
 use Rattle.meaning.specs.Lists.{pick, those, below}
 use Rattle.meaning.specs.Bounds.{mostTasks, mostVertices}
 use Rattle.meaning.specs.Table.{Task, Table, higher}
 use Rattle.meaning.specs.Groups.{count, witness}
-use Rattle.meaning.specs.Verdict.{Verdict, meets, misses, unfinished, refused, Listed, loadOf, topOf, decided, budgeted, walked, walkedAt, ownE, deadline}
-use Rattle.meaning.specs.Judge.{Row, row9, row10, firstRow, unlessRefused}
-use Rattle.meaning.specs.Whole.{Place, placesFrom, places, verdictAt, verdicts, kindOf, ofKind, countsOf}
+use Rattle.meaning.specs.Verdict.{Verdict, meets, misses, unfinished, refused, Listed, loadOf, topOf, kindOf, decided, walked, ownE, deadline}
+use Rattle.meaning.specs.Areas.{witnessNeed}
+use Rattle.meaning.specs.Judge.{Row, refusal, unlessRefused, judged}
+use Rattle.meaning.specs.Whole.{Place, placesFrom, places, verdictAt, verdicts, ofKind, countsOf}
 use Rattle.meaning.specs.Sound.{AllSound, SoundTable}
 use Rattle.meaning.specs.Demands.{vertexTotal}
 use Rattle.meaning.proofs.Lists.{length-countFrom}
+use Rattle.meaning.proofs.Verdicts.{walkedAt}
 
 -- ---- the four add up
 
-pub one-kind : (vs : List Verdict) → length (ofKind 0 vs) + length (ofKind 1 vs) + length (ofKind 2 vs) + length (ofKind 3 vs) ≡ length vs
+pub one-kind : (vs : List Verdict) → ofKind 0 vs + ofKind 1 vs + ofKind 2 vs + ofKind 3 vs ≡ length vs
 one-kind [] = refl
 one-kind (meets c ∷ vs) = omega (arith, one-kind vs)
 one-kind (misses c ws ∷ vs) = omega (arith, one-kind vs)
@@ -63,7 +65,7 @@ kept-decided : (c : ℕ) (o : Option (List Listed)) → Kept (decided c o) (deci
 kept-decided c none = refl
 kept-decided c (some x) = refl
 
-kept-budgeted : (b b′ c : ℕ) (o : Option (List Listed)) → b ≤ b′ → Kept (budgeted b c o) (budgeted b′ c o)
+kept-budgeted : (b b′ c : ℕ) (o : Option (List Listed)) → b ≤ b′ → Kept (pick (ltb b c) (unfinished b) (decided c o)) (pick (ltb b′ c) (unfinished b′) (decided c o))
 kept-budgeted b b′ c o h =
     elim (decLt b c) [ yes k ↦ rw (lt-ltb b c k) tt | no k ↦ rw (le-ltb b c (omega arith), le-ltb b′ c (omega arith)) (kept-decided c o) ]
 
@@ -76,9 +78,10 @@ unfolding walked
 kept-walked ks e d b b′ h = kept-budgeted b b′ (count loadOf e d (topOf ks d)) (witness loadOf e d (topOf ks d)) h
 
 kept-at : (ts : Table) (work : ℕ) (q : Place) (b b′ : ℕ) → b ≤ b′ → Kept (verdictAt ts b work q) (verdictAt ts b′ work q)
-unfolding verdictAt
+unfolding judged
 kept-at ts work q b b′ h =
-    kept-unless (firstRow (row9 ts (q .task) (q .vertex) ∷ row10 ts (q .task) (q .vertex) work ∷ [])) (walkedAt ts (q .task) (q .vertex) b) (walkedAt ts (q .task) (q .vertex) b′)
+    kept-unless (refusal ts (q .task) (q .vertex) work (witnessNeed ts (q .task) (q .vertex)))
+    (walkedAt ts (q .task) (q .vertex) b) (walkedAt ts (q .task) (q .vertex) b′)
     (kept-walked (higher ts (q .task)) (ownE ts (q .task) (q .vertex)) (deadline ts (q .task) (q .vertex)) b b′ h)
 
 -- so a verdict of any other kind stays of its kind
@@ -101,12 +104,12 @@ those-count f x xs = go (f x)
     go true = refl
     go false = refl
 
-more-of : {A : Type 0} (n : ℕ) → n < 2 → (f g : A → Verdict) → ((a : A) → Kept (f a) (g a)) → (xs : List A) → length (ofKind n (map f xs)) ≤ length (ofKind n (map g xs))
+more-of : {A : Type 0} (n : ℕ) → n < 2 → (f g : A → Verdict) → ((a : A) → Kept (f a) (g a)) → (xs : List A) → ofKind n (map f xs) ≤ ofKind n (map g xs)
 more-of n l f g h [] = le-refl 0
 more-of n l f g h (x ∷ xs) =
     let is : Verdict → Bool = λ v. eqb (kindOf v) n in
     rw (those-count is (f x) (map f xs), those-count is (g x) (map g xs))
-    (pick-mono (is (f x)) (is (g x)) (length (ofKind n (map f xs))) (length (ofKind n (map g xs))) (kept-kind n l (f x) (g x) (h x)) (more-of n l f g h xs))
+    (pick-mono (is (f x)) (is (g x)) (ofKind n (map f xs)) (ofKind n (map g xs)) (kept-kind n l (f x) (g x) (h x)) (more-of n l f g h xs))
 
 -- more budget never lowers the first two counts
 pub meets-mono : (ts : Table) (work b b′ : ℕ) → b ≤ b′ → countsOf (verdicts ts b work) .meeting ≤ countsOf (verdicts ts b′ work) .meeting

@@ -1,15 +1,16 @@
--- The edges of a sound task: a tick or more each, out of a vertex to rising vertices, so at most one between two. Assumes nothing.
+-- The edges of a sound task: a tick or more each, out of a vertex to rising vertices, so at most one between two.
 use mathlib.Core.Path.{_≡_, sym, ap, subst, _∙_, refl}
 use Prim.Native.Nat.{ℕ, _≤_, _<_}
 use native.Mathlib.Omega.{arith}
 use mathlib.Core.Logic.{inl, inr}
 use mathlib.Core.List.{List, [], _∷_, List·Memᴰ, List·Memᴰ·head, List·Memᴰ·tail, List·Memᴰ·not-nil}
-use lib.Dec.{T, eqb, eqb→eq, eqb-refl}
+use lib.ListN.{length}
+use lib.Dec.{T, ltb, lt→ltb, eqb, eqb→eq, eqb-refl}
 use Rattle.meaning.specs.Lists.{Rising}
 use Rattle.meaning.specs.Table.{Edge, Task}
-use Rattle.meaning.specs.Paths.{Path, separation, outOf, between, someEdge, firstP, linked}
+use Rattle.meaning.specs.Paths.{Path, separation, outOf, between, firstP, linked}
 use Rattle.meaning.specs.Sound.{SoundTask, EdgeBefore}
-use Rattle.meaning.proofs.Lists.{both, mem-those, those-mem}
+use Rattle.meaning.proofs.Lists.{both, mem-some, mem-those, those-mem}
 use Rattle.meaning.proofs.Rising.{rising-those, rising-weaken}
 
 -- ---- what the laws of paths ask of a task
@@ -44,27 +45,24 @@ pub out-spaced : (k : Task) → Spaced k → (v : ℕ) {x : Edge} → List·Mem�
 out-spaced k sp v {x} m = sp x (those-mem (λ (y : Edge). eqb (y .from) v) (k .edges) m .0)
 
 -- the edge that a link of a path goes by
-pub link-edge : (k : Task) (u v : ℕ) → T (someEdge (between k u v)) → (x : Edge) × List·Memᴰ x (outOf k u) × (x .to ≡ v) × (x .p ≡ separation k u v)
+pub link-edge : (k : Task) (u v : ℕ) → T (ltb 0 (length (between k u v))) → (x : Edge) × List·Memᴰ x (outOf k u) × (x .to ≡ v) × (x .p ≡ separation k u v)
 unfolding separation
 link-edge k u v h = go (between k u v) refl h
   where
-    go : (es : List Edge) → between k u v ≡ es → T (someEdge es) → (x : Edge) × List·Memᴰ x (outOf k u) × (x .to ≡ v) × (x .p ≡ firstP (between k u v))
+    go : (es : List Edge) → between k u v ≡ es → T (ltb 0 (length es)) → (x : Edge) × List·Memᴰ x (outOf k u) × (x .to ≡ v) × (x .p ≡ firstP (between k u v))
     go [] q t = absurd t
     go (x ∷ xs) q t =
         let m : List·Memᴰ x (between k u v) = subst (λ (l : List Edge). List·Memᴰ x l) (sym q) (List·Memᴰ·head refl) in
         let r = those-mem (λ (y : Edge). eqb (y .to) v) (outOf k u) m in
         (x, r .0, eqb→eq (x .to) v (r .1), ap firstP (sym q))
 
-mem-some : (es : List Edge) {x : Edge} → List·Memᴰ x es → T (someEdge es)
-mem-some [] m = absurd (List·Memᴰ·not-nil m)
-mem-some (y ∷ ys) m = tt
-
-edge-link : (k : Task) (v : ℕ) (x : Edge) → List·Memᴰ x (outOf k v) → T (someEdge (between k v (x .to)))
-edge-link k v x m = mem-some (between k v (x .to)) (mem-those (λ (y : Edge). eqb (y .to) (x .to)) m (eqb-refl (x .to)))
+edge-link : (k : Task) (v : ℕ) (x : Edge) → List·Memᴰ x (outOf k v) → T (ltb 0 (length (between k v (x .to))))
+edge-link k v x m =
+    lt→ltb 0 (length (between k v (x .to))) (mem-some (mem-those (λ (y : Edge). eqb (y .to) (x .to)) m (eqb-refl (x .to))))
 
 -- by an edge, to a path that is linked
 pub on-by : (k : Task) (v : ℕ) (x : Edge) (w q : Path) → List·Memᴰ x (outOf k v) → q ≡ x .to ∷ w → T (linked k (x .to) w) → T (linked k v q)
-on-by k v x w q m h l = subst (λ (z : Path). T (linked k v z)) (sym h) (both (someEdge (between k v (x .to))) (linked k (x .to) w) (edge-link k v x m) l)
+on-by k v x w q m h l = subst (λ (z : Path). T (linked k v z)) (sym h) (both (ltb 0 (length (between k v (x .to)))) (linked k (x .to) w) (edge-link k v x m) l)
 
 -- ---- at most one edge from a vertex to a vertex
 

@@ -1,4 +1,4 @@
--- C is at most 2P - 1: there are no more groups. Assumes nothing.
+-- C is at most 2P - 1: there are no more groups.
 use mathlib.Core.Path.{_≡_, refl, sym, ap, _∙_}
 use Prim.Native.Nat.{ℕ, zero, suc, _+_, _-_, _*_, _≤_}
 use native.Mathlib.Nat.{le-refl, mul-pos, mul-add, add-mul}
@@ -8,7 +8,8 @@ use mathlib.Core.List.{List, [], _∷_, map}
 use lib.ListN.{length, take-append-drop, length-append}
 use lib.Dec.{T, ltb, ltb→lt}
 use Rattle.meaning.specs.Lists.{all, sum}
-use Rattle.meaning.specs.Groups.{overloads, half, firstPart, secondPart, long, single, firstChild, secondChild, Placed, groupsFrom, allGroups, isWitness, notAfter, count, P}
+use Rattle.meaning.specs.Groups.{overloads, half, firstPart, secondPart, long, single, Placed, groupsFrom, allGroups, isWitness, notAfter, count, P}
+use Rattle.meaning.specs.Walk.{firstChild, secondChild}
 use Rattle.meaning.proofs.Lists.{both-left, both-right}
 use Rattle.meaning.proofs.Firsts.{those-le, upTo-le}
 use Rattle.meaning.proofs.Groups.{first-part, second-part, full, full-child}

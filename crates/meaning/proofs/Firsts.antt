@@ -1,4 +1,4 @@
--- The first element that passes a test, the list up to it, and those that pass. Assumes nothing.
+-- The first element that passes a test, the list up to it, and those that pass.
 use mathlib.Core.Path.{_≡_, refl, sym, ap, subst, _∙_}
 use Prim.Native.Nat.{ℕ, suc, _≤_}
 use native.Mathlib.Nat.{le-refl}

@@ -1,4 +1,4 @@
--- Groups: an overloading choice makes every group that holds it overload; the children share a group's choices in order. Assumes nothing.
+-- Groups: an overloading choice makes every group that holds it overload; the children share a group's choices in order.
 use mathlib.Core.Path.{_≡_, refl, sym, ap, subst, _∙_}
 use Prim.Native.Nat.{ℕ, zero, suc, _+_, _-_, _≤_, _<_, zero-le}
 use native.Mathlib.Nat.{le-refl}
@@ -9,7 +9,8 @@ use mathlib.Core.List.{List, [], _∷_, _++_, map, append-nil, List·Memᴰ, Lis
 use lib.ListN.{length, take, drop, take-append-drop, length-take, length-drop}
 use lib.Dec.{T, ltb, ltb→lt, lt→ltb}
 use Rattle.meaning.specs.Lists.{pick, all, gather, ticks, sum}
-use Rattle.meaning.specs.Groups.{exceeds, choiceLoads, choiceOverloads, rangeLoad, groupLoads, overloads, half, firstPart, secondPart, long, single, childBy, firstChild, secondChild, choices, In}
+use Rattle.meaning.specs.Groups.{exceeds, choiceLoads, choiceOverloads, rangeLoad, groupLoads, overloads, half, firstPart, secondPart, long, single, childBy, choices}
+use Rattle.meaning.specs.Walk.{firstChild, secondChild}
 use Rattle.meaning.proofs.Lists.{both, both-left, both-right, is-false, all-mem, mem-all, mem-gather, gather-mem, gather-append, map-append, mem-largest}
 
 -- the overload test grows with the loads
@@ -21,6 +22,13 @@ exceeds-mono e d f g h p =
 -- ---- choices in a group
 
 module _ {X : Type 0} where
+  -- a choice is in a group: one path of each range
+  abbrev pub In : List X → List (List X) → Type 0
+  In [] [] = Unit {0}
+  In [] (r ∷ g) = ⊥
+  In (x ∷ c) [] = ⊥
+  In (x ∷ c) (r ∷ g) = List·Memᴰ x r × In c g
+
   pub in-choices : (c : List X) (g : List (List X)) → In c g → List·Memᴰ c (choices g)
   in-choices [] [] p = List·Memᴰ·head refl
   in-choices [] (r ∷ g) p = absurd p

@@ -21,6 +21,8 @@ pub mod Choices
 pub mod Refusals
 pub mod Verdicts
 pub mod Readable
+pub mod LongestText
+pub mod FaultyLine
 pub mod Answers
 pub mod Counts
 pub mod MissPaths

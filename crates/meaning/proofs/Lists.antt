@@ -1,4 +1,4 @@
--- Laws of the words on lists: tests, members, sums, the largest. Assumes nothing.
+-- Laws of the words on lists: tests, members, sums, the largest.
 use mathlib.Core.Path.{_≡_, refl, sym, ap, ap₂, subst, _∙_}
 use Prim.Native.Nat.{ℕ, zero, suc, _+_, _-_, _≤_, _<_}
 use native.Mathlib.Decide.{ℕ-discrete}
@@ -7,7 +7,7 @@ use native.Mathlib.Omega.{arith}
 use mathlib.Core.Bool.{Bool, true, false, _&&_}
 use mathlib.Core.Logic.{_⊎_, inl, inr}
 use mathlib.Core.List.{List, [], _∷_, _++_, map, append-assoc, List·Memᴰ, List·Memᴰ·head, List·Memᴰ·tail, Memᴰ·append-left, Memᴰ·append-right, List·Memᴰ·append-cases, List·Memᴰ·not-nil}
-use lib.ListN.{length, getD, take, drop}
+use lib.ListN.{length, getD, take, drop, length-append}
 use lib.Seq.{take-nil}
 use lib.Dec.{T}
 use Rattle.meaning.specs.Lists.{pick, all, those, sum, largest, gather, countFrom}
@@ -37,6 +37,10 @@ is-false false f = refl
 pub and-false : (b : Bool) → (b && false) ≡ false
 and-false true = refl
 and-false false = refl
+
+pub mem-some : {A : Type 0} {x : A} {xs : List A} → List·Memᴰ x xs → 0 < length xs
+mem-some (List·Memᴰ·head q) = omega arith
+mem-some (List·Memᴰ·tail m) = omega arith
 
 module _ {X : Type 0} where
   pub all-mem : (f : X → Bool) (xs : List X) → T (all f xs) → {x : X} → List·Memᴰ x xs → T (f x)
@@ -89,6 +93,9 @@ module _ {X : Type 0} where
   mem-drop zero xs m = m
   mem-drop (suc n) [] m = m
   mem-drop (suc n) (y ∷ ys) m = List·Memᴰ·tail (mem-drop n ys m)
+
+  pub length-snoc : (xs : List X) (x : X) → length (xs ++ (x ∷ [])) ≡ suc (length xs)
+  length-snoc xs x = rw length-append (omega arith)
 
   -- a run of neighbours, from its own place k on
   pub drop-take : (k m : ℕ) (xs : List X) → drop k (take m xs) ≡ take (m - k) (drop k xs)

@@ -1,4 +1,4 @@
--- Loads never fall as t grows, and a legal path of a sound task has at most the largest e for each tick. Assumes nothing.
+-- Loads never fall as t grows, and a legal path of a sound task has at most the largest e for each tick.
 use mathlib.Core.Path.{refl, ap}
 use Prim.Native.Nat.{ℕ, zero, suc, _-_, _*_, _≤_, zero-le}
 use native.Mathlib.Omega.{arith}
@@ -8,7 +8,7 @@ use lib.Dec.{T, ltb}
 use lib.ListN.{length, getD, List·getD-eq-default}
 use Rattle.meaning.specs.Bounds.{largestE}
 use Rattle.meaning.specs.Table.{Vertex, Task, noVertex}
-use Rattle.meaning.specs.Paths.{Path, separation, execution, between, someEdge, linked, legal, load}
+use Rattle.meaning.specs.Paths.{Path, separation, execution, between, linked, legal, load}
 use Rattle.meaning.specs.Groups.{rangeLoad}
 use Rattle.meaning.specs.Sound.{SoundTask}
 use Rattle.meaning.proofs.Lists.{both-left, both-right, mem-getD}
@@ -43,7 +43,7 @@ module _ (k : Task) (s : SoundTask k) where
   ]
 
   -- a link takes a tick or more
-  apart : (u v : ℕ) → T (someEdge (between k u v)) → 1 ≤ separation k u v
+  apart : (u v : ℕ) → T (ltb 0 (length (between k u v))) → 1 ≤ separation k u v
   apart u v l = let x = link-edge k u v l in omega (arith, out-spaced k (sound-spaced k s) u (x .1), x .3)
 
   run-bound : (u : ℕ) (w : Path) (t : ℕ) → T (linked k u w) → runOn k u w t ≤ largestE * t
@@ -51,8 +51,8 @@ module _ (k : Task) (s : SoundTask k) where
   run-bound u [] (suc t) l = omega (arith, execution-bound u)
   run-bound u (v ∷ w) zero l = zero-le
   run-bound u (v ∷ w) (suc t) l =
-      let a = apart u v (both-left (someEdge (between k u v)) (linked k v w) l) in
-      omega (arith, execution-bound u, run-bound v w (suc t - separation k u v) (both-right (someEdge (between k u v)) (linked k v w) l))
+      let a = apart u v (both-left (ltb 0 (length (between k u v))) (linked k v w) l) in
+      omega (arith, execution-bound u, run-bound v w (suc t - separation k u v) (both-right (ltb 0 (length (between k u v))) (linked k v w) l))
 
   pub load-bound : (w : Path) (t : ℕ) → T (legal k w) → load k w t ≤ largestE * t
   load-bound [] t l = absurd l

@@ -1,4 +1,4 @@
--- The load of a path, walked from its first vertex: the definition by prefixes comes to this. Assumes nothing.
+-- The load of a path, walked from its first vertex: the definition by prefixes comes to this.
 use mathlib.Core.Path.{_≡_, refl, sym, ap, _∙_}
 use Prim.Native.Nat.{ℕ, zero, suc, _+_, _-_, _≤_, max, zero-le}
 use native.Mathlib.Nat.{le-refl, not-suc-le-zero}

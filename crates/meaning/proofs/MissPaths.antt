@@ -1,4 +1,4 @@
--- The paths of a miss: one a higher task, of at most d vertices, each a vertex of its task. Assumes nothing.
+-- The paths of a miss: one a higher task, of at most d vertices, each a vertex of its task.
 use mathlib.Core.Path.{_≡_, refl, sym, ap, subst, _∙_}
 use Prim.Native.Nat.{ℕ, zero, suc, _≤_, _<_}
 use native.Mathlib.Nat.{le-trans}
@@ -9,7 +9,7 @@ use lib.Seq.{length-take-le}
 use lib.Dec.{T, ltb, ltb→lt}
 use Rattle.meaning.specs.Bounds.{mostVertices, largestD}
 use Rattle.meaning.specs.Table.{Task, Table, noTask, noVertex, taskAt, vertexAt, higher}
-use Rattle.meaning.specs.Paths.{Path, between, someEdge, linked, legal}
+use Rattle.meaning.specs.Paths.{Path, between, linked, legal}
 use Rattle.meaning.specs.Verdict.{misses, deadline}
 use Rattle.meaning.specs.Judge.{judged}
 use Rattle.meaning.specs.Sound.{SoundTask, SoundTable, AllSound}
@@ -25,9 +25,9 @@ use Rattle.meaning.proofs.Answers.{sound-higher}
 linked-in : (k : Task) → SoundTask k → (u : ℕ) (w : Path) → T (linked k u w) → (j : ℕ) → getD w j 0 < length (k .vertices)
 linked-in k s u [] l j = s .someVertex
 linked-in k s u (v ∷ w) l zero =
-    let x = link-edge k u v (both-left (someEdge (between k u v)) (linked k v w) l) in
+    let x = link-edge k u v (both-left (ltb 0 (length (between k u v))) (linked k v w) l) in
     omega (arith, s .eachEdge (x .0) (those-mem _ (k .edges) (x .1) .0) .toIn, x .2)
-linked-in k s u (v ∷ w) l (suc j) = linked-in k s v w (both-right (someEdge (between k u v)) (linked k v w) l) j
+linked-in k s u (v ∷ w) l (suc j) = linked-in k s v w (both-right (ltb 0 (length (between k u v))) (linked k v w) l) j
 
 legal-in : (k : Task) → SoundTask k → (w : Path) → T (legal k w) → (j : ℕ) → getD w j 0 < length (k .vertices)
 legal-in k s [] l j = absurd l

@@ -1,4 +1,4 @@
--- The complete paths from a vertex, one turn at a time: alone, or on by each edge that leaves room. Assumes nothing.
+-- The complete paths from a vertex, one turn at a time: alone, or on by each edge that leaves room.
 use mathlib.Core.Path.{_≡_, refl, sym, subst}
 use Prim.Native.Nat.{ℕ, zero, suc, _-_, _<_, zero-le}
 use native.Mathlib.Omega.{arith}

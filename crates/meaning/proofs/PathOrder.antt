@@ -1,4 +1,4 @@
--- The complete paths are listed in order, first difference first, without repeats. Assumes nothing.
+-- The complete paths are listed in order, first difference first, without repeats.
 use mathlib.Core.Path.{_≡_, refl, sym, subst, subst₂}
 use Prim.Native.Nat.{ℕ, zero, suc, _-_, _<_}
 use native.Mathlib.Omega.{arith}

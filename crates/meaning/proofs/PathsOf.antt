@@ -1,14 +1,14 @@
--- The paths that the walk chooses from: legal, in order, at least one, and no legal path loads more than some of them. Assumes nothing.
+-- The paths that the walk chooses from: legal, in order, at least one, and no legal path loads more than some of them.
 -- What other laws know of `pathsOf` is here.
 use Prim.Native.Nat.{ℕ, _≤_, _<_}
-use native.Mathlib.Omega.{arith}
-use mathlib.Core.List.{List, List·Memᴰ, List·Memᴰ·head, List·Memᴰ·tail}
+use mathlib.Core.List.{List·Memᴰ}
 use lib.ListN.{length}
 use lib.Dec.{T}
 use Rattle.meaning.specs.Lists.{Rising}
 use Rattle.meaning.specs.Table.{Task}
 use Rattle.meaning.specs.Paths.{Path, legal, load, pathsOf, Before}
 use Rattle.meaning.specs.Sound.{SoundTask}
+use Rattle.meaning.proofs.Lists.{mem-some}
 use Rattle.meaning.proofs.Edges.{sound-spaced, sound-fanned}
 use Rattle.meaning.proofs.Onward.{some-path, mem-complete, complete-legal}
 use Rattle.meaning.proofs.PathOrder.{rising-complete}
@@ -18,10 +18,6 @@ use Rattle.meaning.proofs.Suffice.{dominated}
 pub paths-legal : (k : Task) (d : ℕ) {c : Path} → List·Memᴰ c (pathsOf k d) → T (legal k c)
 unfolding pathsOf
 paths-legal k d m = complete-legal k d m
-
-mem-some : {A : Type 0} {x : A} {xs : List A} → List·Memᴰ x xs → 0 < length xs
-mem-some (List·Memᴰ·head q) = omega arith
-mem-some (List·Memᴰ·tail m) = omega arith
 
 module _ (k : Task) (s : SoundTask k) (d : ℕ) where
   pub paths-rising : Rising Before (pathsOf k d)

@@ -1,4 +1,4 @@
--- What every readable text keeps, and where a refusal of a text can stand. Assumes nothing.
+-- What every readable text keeps, and where a refusal of a text can stand.
 use mathlib.Core.Path.{_≡_, refl, sym, subst, _∙_}
 use Prim.Native.Nat.{ℕ, zero, suc, _+_, _-_, _*_, _≤_, _<_, min}
 use native.Mathlib.Omega.{arith}
@@ -6,15 +6,15 @@ use mathlib.Core.Bool.{Bool, true, false, _&&_, _||_}
 use mathlib.Core.Logic.{_⊎_, inl, inr}
 use mathlib.Core.Option.{Option, none, some}
 use mathlib.Core.List.{List, [], _∷_, _++_, List·Memᴰ, List·Memᴰ·head, List·Memᴰ·append-cases, List·Memᴰ·cases-cons, List·Memᴰ·eq-of-singleton, List·Memᴰ·not-nil}
-use lib.ListN.{length, getD, length-append, List·getD-append}
+use lib.ListN.{length, getD, List·getD-append}
 use lib.Dec.{T, ltb, leb, eqb, leb→le, ltb→lt, eqb→eq}
 use Rattle.meaning.specs.Lists.{pick, Rising}
 use Rattle.meaning.specs.Bounds.{mostTasks, mostVertices, mostEdges, largestE, largestD, largestP}
 use Rattle.meaning.specs.Table.{Vertex, Edge, Task, Table, vertex, edge, task, noVertex}
-use Rattle.meaning.specs.Text.{Line, frameOf, Begun, begun, nothing, Step, on, over, wrong, within, closed, afterLast, gate, taskFrame, vertexFrame, edgeFrame, Wanted, aVertex, anEdge, aTask, wantedBy, isFrame, word, framed, stepAt, Reading, readable, unreadable, atEnd, mostLines, readFrom, read, linesOf}
-use Rattle.meaning.specs.Sound.{SoundVertex, SoundEdge, EdgeBefore, SoundTask, AllSound, SoundTable}
-use Rattle.meaning.specs.Demands.{TextRefused, lastLine}
-use Rattle.meaning.proofs.Lists.{both-left, both-right}
+use Rattle.meaning.specs.Text.{Line, frameOf, Begun, begun, nothing, Step, on, over, wrong, within, closed, afterLast, gate, taskFrame, vertexFrame, edgeFrame, isFrame, word, framed, stepAt, Reading, readable, unreadable, atEnd, readFrom, read, linesOf}
+use Rattle.meaning.specs.Sound.{SoundVertex, SoundEdge, EdgeBefore, SoundTask, AllSound, SoundTable, ReadableSound}
+use Rattle.meaning.specs.Texts.{mostLines, lastLine}
+use Rattle.meaning.proofs.Lists.{both-left, both-right, length-snoc}
 use Rattle.meaning.proofs.Rising.{rising-one, rising-append}
 
 -- ---- one more at the end of a list
@@ -26,9 +26,6 @@ each-snoc {A} {Q} xs x h q y m = go (List·Memᴰ·append-cases xs m)
     go : List·Memᴰ y xs ⊎ List·Memᴰ y (x ∷ []) → Q y
     go (inl k) = h y k
     go (inr k) = subst Q (sym (List·Memᴰ·eq-of-singleton k)) q
-
-length-snoc : {A : Type 0} (xs : List A) (x : A) → length (xs ++ (x ∷ [])) ≡ suc (length xs)
-length-snoc xs x = rw length-append (omega arith)
 
 -- an edge stays sound when its task gets another vertex
 edge-snoc : (vs : List Vertex) (y : Vertex) (x : Edge) → SoundEdge vs x → SoundEdge (vs ++ (y ∷ [])) x
@@ -97,19 +94,20 @@ not-here = record { low = omega arith; high = omega arith }
 outside : Number 3
 outside = record { low = omega arith; high = omega arith }
 
+-- a step behind a test keeps what it keeps where the test holds, and what its other side keeps
+pub gate-step : (Q : Step → Type 0) (b : Bool) (k : ℕ) (s : Step) → Q (wrong k) → (T b → Q s) → Q (gate b k s)
+gate-step Q true k s i h = h tt
+gate-step Q false k s i h = i
+
+pub pick-step : (Q : Step → Type 0) (b : Bool) (x y : Step) → (T b → Q x) → Q y → Q (pick b x y)
+pick-step Q true x y a c = a tt
+pick-step Q false x y a c = c
+
 -- what a step at line n keeps
 abbrev Ok : ℕ → Step → Type 0
 Ok n (on s) = HeldSoFar (suc n) s
 Ok n (over ts) = SoundTable ts × (n < lastLine)
 Ok n (wrong k) = Number k
-
-gate-ok : (n : ℕ) (b : Bool) (k : ℕ) (s : Step) → Number k → (T b → Ok n s) → Ok n (gate b k s)
-gate-ok n true k s i h = h tt
-gate-ok n false k s i h = i
-
-pick-ok : (n : ℕ) (b : Bool) (x y : Step) → (T b → Ok n x) → Ok n y → Ok n (pick b x y)
-pick-ok n true x y a c = a tt
-pick-ok n false x y a c = c
 
 -- ---- the task that was just read to its end
 
@@ -152,7 +150,7 @@ module _ (n : ℕ) (ts : List Task) (es : List Edge) (v e : ℕ) where
 
 task-ok : (n : ℕ) (s : Begun) (v e : ℕ) → Closed n (closed s) → length (closed s) < mostTasks → Ok n (taskFrame s v e)
 task-ok n s v e c h =
-    gate-ok n (within 1 mostVertices v && leb e mostEdges) 3 (on (begun (closed s) (task [] []) v e)) outside
+    gate-step (Ok n) (within 1 mostVertices v && leb e mostEdges) 3 (on (begun (closed s) (task [] []) v e)) outside
     (λ t.
     let r = both-left (within 1 mostVertices v) (leb e mostEdges) t in
     let low = leb→le 1 v (both-left (leb 1 v) (leb v mostVertices) r) in
@@ -172,7 +170,7 @@ vertex-ok : (n : ℕ) (s : Begun) (e d : ℕ) → HeldSoFar n s → 1 ≤ s .wan
 vertex-ok n s e d h w =
     let x : Vertex = vertex e d in
     let more = length-snoc (s .vertices) x in
-    gate-ok n (within 1 largestE e && within 1 largestD d) 3
+    gate-step (Ok n) (within 1 largestE e && within 1 largestD d) 3
     (on (begun (s .tasks) (task (s .vertices ++ (x ∷ [])) (s .edges)) (s .wantV - 1) (s .wantE))) outside
     (λ t.
     let a = both-left (within 1 largestE e) (within 1 largestD d) t in
@@ -204,9 +202,9 @@ edge-ok n s f t p h w m =
     let to = ltb t (length vs) in
     let b4 = leb (getD vs f noVertex .d) p in
     let b5 = afterLast (s .edges) x in
-    gate-ok n (from && to && within 1 largestP p) 3 (gate b4 4 (gate b5 5 end)) outside
-    (λ u. gate-ok n b4 4 (gate b5 5 end) (record { low = omega arith; high = omega arith })
-    (λ v. gate-ok n b5 5 end (record { low = omega arith; high = omega arith })
+    gate-step (Ok n) (from && to && within 1 largestP p) 3 (gate b4 4 (gate b5 5 end)) outside
+    (λ u. gate-step (Ok n) b4 4 (gate b5 5 end) (record { low = omega arith; high = omega arith })
+    (λ v. gate-step (Ok n) b5 5 end (record { low = omega arith; high = omega arith })
     (λ r.
     let ends = both-left (from && to) (within 1 largestP p) u in
     let fits = both-right (from && to) (within 1 largestP p) u in
@@ -230,58 +228,67 @@ edge-ok n s f t p h w m =
 
 -- ---- a line, and all lines
 
-abbrev Wants : Wanted → ℕ → ℕ → Type 0
-Wants aVertex v e = 1 ≤ v
-Wants anEdge v e = (v ≡ 0) × (1 ≤ e)
-Wants aTask v e = v ≡ 0
-
-wants : (v e : ℕ) → Wants (wantedBy v e) v e
-wants (suc v) e = omega arith
-wants zero (suc e) = (refl, omega arith)
-wants zero zero = refl
-
 over-ok : (n : ℕ) (ts : Table) → Closed n ts → 0 < length ts → Ok n (over ts)
 over-ok n ts c h = (record { someTask = h; taskCount = c .count; eachTask = c .sound }, omega (arith, c .line, c .count))
 
-framed-ok : (n : ℕ) (s : Begun) (w : Wanted) (f : List ℕ) → HeldSoFar n s → Wants w (s .wantV) (s .wantE) → Ok n (framed s w f)
-framed-ok n s aVertex f h w = pick-ok n (isFrame 2 5 f) (vertexFrame s (word f 1) (word f 3)) (wrong 2) (λ t. vertex-ok n s (word f 1) (word f 3) h w) not-here
-framed-ok n s anEdge f h w =
-    pick-ok n (isFrame 3 5 f) (edgeFrame s (getD f 1 0) (getD f 2 0) (word f 3)) (wrong 2)
-    (λ t. edge-ok n s (getD f 1 0) (getD f 2 0) (word f 3) h (w .0) (w .1)) not-here
-framed-ok n s aTask f h w =
-    let c = closed-held n (s .tasks) (s .edges) (s .wantV) (s .wantE) (s .vertices) w h in
+framed-ok : (n : ℕ) (s : Begun) (v e : ℕ) (f : List ℕ) → HeldSoFar n s → s .wantV ≡ v → s .wantE ≡ e → Ok n (framed s v e f)
+framed-ok n s (suc v) e f h p q =
+    pick-step (Ok n) (isFrame 2 5 f) (vertexFrame s (word f 1) (word f 3)) (wrong 2) (λ t. vertex-ok n s (word f 1) (word f 3) h (omega arith)) not-here
+framed-ok n s zero (suc e) f h p q =
+    pick-step (Ok n) (isFrame 3 5 f) (edgeFrame s (getD f 1 0) (getD f 2 0) (word f 3)) (wrong 2)
+    (λ t. edge-ok n s (getD f 1 0) (getD f 2 0) (word f 3) h p (omega arith)) not-here
+framed-ok n s zero zero f h p q =
+    let c = closed-held n (s .tasks) (s .edges) (s .wantV) (s .wantE) (s .vertices) p h in
     let few = ltb (length (closed s)) mostTasks in
     let some = ltb 0 (length (closed s)) in
-    pick-ok n (isFrame 1 3 f && few) (taskFrame s (getD f 1 0) (getD f 2 0)) (pick (isFrame 0 1 f && some) (over (closed s)) (wrong 2))
+    pick-step (Ok n) (isFrame 1 3 f && few) (taskFrame s (getD f 1 0) (getD f 2 0)) (pick (isFrame 0 1 f && some) (over (closed s)) (wrong 2))
     (λ t. task-ok n s (getD f 1 0) (getD f 2 0) c (ltb→lt (length (closed s)) mostTasks (both-right (isFrame 1 3 f) few t)))
-    (pick-ok n (isFrame 0 1 f && some) (over (closed s)) (wrong 2)
+    (pick-step (Ok n) (isFrame 0 1 f && some) (over (closed s)) (wrong 2)
     (λ t. over-ok n (closed s) c (ltb→lt 0 (length (closed s)) (both-right (isFrame 0 1 f) some t))) not-here)
 
 step-ok : (n : ℕ) (s : Begun) (o : Option (List ℕ)) → HeldSoFar n s → Ok n (stepAt s o)
 step-ok n s none h = record { low = omega arith; high = omega arith }
-step-ok n s (some f) h = framed-ok n s (wantedBy (s .wantV) (s .wantE)) f h (wants (s .wantV) (s .wantE))
+step-ok n s (some f) h = framed-ok n s (s .wantV) (s .wantE) f h refl refl
+
+-- the lines behind line n, after its step
+abbrev pub readStep : Step → ℕ → List Line → Reading
+readStep (on s) n ls = readFrom s (suc n) ls
+readStep (over ts) n ls = atEnd ts (suc n) ls
+readStep (wrong k) n ls = unreadable k n
+
+pub step-read : (s : Begun) (n : ℕ) (l : Line) (ls : List Line) → readFrom s n (l ∷ ls) ≡ readStep (stepAt s (frameOf l)) n ls
+step-read s n l ls = go (stepAt s (frameOf l)) refl
+  where
+    go : (r : Step) → stepAt s (frameOf l) ≡ r → readFrom s n (l ∷ ls) ≡ readStep (stepAt s (frameOf l)) n ls
+    go (on s′) e = rw (e, readFrom)
+    go (over ts) e = rw (e, readFrom)
+    go (wrong k) e = rw (e, readFrom)
+
+-- a row of the text and a line that it can name
+abbrev pub InText : ℕ → ℕ → Type 0
+InText k n = (1 ≤ k) × (k ≤ 7) × (1 ≤ n) × (n ≤ lastLine)
 
 abbrev Good : Reading → Type 0
 Good (readable ts) = SoundTable ts
-Good (unreadable k n) = TextRefused k n
+Good (unreadable k n) = InText k n
 
 at-end : (ts : Table) (n : ℕ) (ls : List Line) → SoundTable ts → n < lastLine → Good (atEnd ts (suc n) ls)
 at-end ts n [] s h = s
-at-end ts n (l ∷ ls) s h = record { low = omega arith; high = omega arith; first = omega arith; last = omega arith }
+at-end ts n (l ∷ ls) s h = (omega arith, omega arith, omega arith, omega arith)
 
 -- a refusal at line n, before the end frame
-here : (n k : ℕ) (s : Begun) → HeldSoFar n s → 1 ≤ k → k ≤ 7 → TextRefused k n
-here n k s h a b = record { low = a; high = b; first = h .first; last = omega (arith, h .line, h .taskCount, h .vertexCount, h .edgeCount) }
+here : (n k : ℕ) (s : Begun) → HeldSoFar n s → 1 ≤ k → k ≤ 7 → InText k n
+here n k s h a b = (a, b, h .first, omega (arith, h .line, h .taskCount, h .vertexCount, h .edgeCount))
 
 from-good : (s : Begun) (n : ℕ) (ls : List Line) → HeldSoFar n s → Good (readFrom s n ls)
 from-good s n [] h = here n 6 s h (omega arith) (omega arith)
-from-good s n (l ∷ ls) h = go (λ s′ k. from-good s′ (suc n) ls k) (stepAt s (frameOf l)) refl (step-ok n s (frameOf l) h)
+from-good s n (l ∷ ls) h =
+    subst Good (sym (step-read s n l ls)) (go (λ s′ k. from-good s′ (suc n) ls k) (stepAt s (frameOf l)) (step-ok n s (frameOf l) h))
   where
-    go : ((s′ : Begun) → HeldSoFar (suc n) s′ → Good (readFrom s′ (suc n) ls)) → (r : Step) → stepAt s (frameOf l) ≡ r → Ok n r
-        → Good (readFrom s n (l ∷ ls))
-    go ih (on s′) e k = rw (e, readFrom) (ih s′ k)
-    go ih (over ts) e k = rw (e, readFrom) (at-end ts n ls (k .0) (k .1))
-    go ih (wrong m) e k = rw (e, readFrom) (here n m s h (k .low) (omega (arith, k .high)))
+    go : ((s′ : Begun) → HeldSoFar (suc n) s′ → Good (readFrom s′ (suc n) ls)) → (r : Step) → Ok n r → Good (readStep r n ls)
+    go ih (on s′) k = ih s′ k
+    go ih (over ts) k = at-end ts n ls (k .0) (k .1)
+    go ih (wrong m) k = here n m s h (k .low) (omega (arith, k .high))
 
 read-good : (text : List ℕ) → Good (read text)
 unfolding read
@@ -299,8 +306,8 @@ read-good text =
       line = omega arith;
     })
 
-pub read-sound : (text : List ℕ) (ts : Table) → read text ≡ readable ts → SoundTable ts
+pub read-sound : ReadableSound
 read-sound text ts q = subst Good q (read-good text)
 
-pub read-refused : (text : List ℕ) (k n : ℕ) → read text ≡ unreadable k n → TextRefused k n
+pub read-refused : (text : List ℕ) (k n : ℕ) → read text ≡ unreadable k n → InText k n
 read-refused text k n q = subst Good q (read-good text)

@@ -1,22 +1,27 @@
--- The refusal sheet's rows 8 to 11: none is given exactly when none holds. Assumes nothing.
+-- The refusal sheet's rows 8 to 11: none is given exactly when none holds.
 use mathlib.Core.Path.{_≡_, refl, sym, _∙_}
 use Prim.Native.Nat.{ℕ, _≤_, _<_}
 use native.Mathlib.Nat.{le-trans}
 use native.Mathlib.Omega.{arith}
 use mathlib.Core.Bool.{Bool, true, false, not, _&&_, true≢false}
-use mathlib.Core.Option.{none, some}
+use mathlib.Core.Option.{Option, none, some}
 use mathlib.Core.List.{List, [], _∷_}
 use lib.ListN.{length}
 use lib.Dec.{T, ltb, ltb→lt}
 use borrow.Author.Tests.{lt-ltb, le-ltb, ltb-false}
+use Rattle.meaning.specs.Lists.{firstThat}
 use Rattle.meaning.specs.Table.{Table, taskAt}
 use Rattle.meaning.specs.Verdict.{deadline}
 use Rattle.meaning.specs.Areas.{workNeed, witnessNeed}
-use Rattle.meaning.specs.Judge.{Row, crowded, row8, row9, row10, row11, firstRow, refusal}
+use Rattle.meaning.specs.Judge.{Row, crowded, row8, row9, row10, row11, refusal}
 use Rattle.meaning.proofs.Lists.{both-left, both-right}
 use Rattle.meaning.proofs.Firsts.{first-hit, first-skip}
 
 -- ---- rows in order
+
+-- the first that holds
+abbrev pub firstRow : List Row → Option Row
+firstRow rows = firstThat (λ (r : Row). r .holds) rows
 
 pub row-none : (r : Row) (rs : List Row) → r .holds ≡ false → firstRow (r ∷ rs) ≡ firstRow rs
 row-none r rs h = first-skip (λ (x : Row). x .holds) r rs h

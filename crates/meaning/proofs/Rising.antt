@@ -1,4 +1,4 @@
--- Lists in order: how they are made, and that their members settle them. Assumes nothing.
+-- Lists in order: how they are made, and that their members settle them.
 use mathlib.Core.Path.{_≡_, refl, sym, ap₂, subst}
 use Prim.Native.Nat.{ℕ, zero, suc, _<_}
 use native.Mathlib.Omega.{arith}

@@ -1,4 +1,4 @@
--- The run sees C groups and finds the witness, or is cut short exactly if the budget is below C. Assumes nothing.
+-- The run sees C groups and finds the witness, or is cut short exactly if the budget is below C.
 use mathlib.Core.Path.{_≡_, refl, sym, ap, ap₂, _∙_}
 use Prim.Native.Nat.{ℕ, zero, suc, _+_, _≤_, _<_}
 use native.Mathlib.Nat.{le-refl}
@@ -9,8 +9,8 @@ use mathlib.Core.List.{List, [], _∷_, map}
 use lib.ListN.{length}
 use lib.Dec.{T}
 use Rattle.meaning.specs.Lists.{sum}
-use Rattle.meaning.specs.Groups.{overloads, single, firstChild, secondChild, count, witness}
-use Rattle.meaning.specs.Walk.{heads, ended, cut, run}
+use Rattle.meaning.specs.Groups.{overloads, single, count, witness}
+use Rattle.meaning.specs.Walk.{firstChild, secondChild, heads, ended, cut, run}
 use Rattle.meaning.proofs.Firsts.{orElse}
 use Rattle.meaning.proofs.Groups.{first-part, second-part, full, excess, excess-le, excess-single, excess-child}
 use Rattle.meaning.proofs.Sides.{Sides, unless, joined, sidesFrom, sides-quiet, sides-hit, sides-split}

@@ -1,11 +1,11 @@
--- The walk as a recursion over its two sides: how many groups are seen below a group, and what is found. Assumes nothing.
+-- The walk as a recursion over its two sides: how many groups are seen below a group, and what is found.
 use mathlib.Core.Path.{_≡_, refl}
 use Prim.Native.Nat.{ℕ, zero, suc, _+_}
 use mathlib.Core.Bool.{Bool, true, false}
 use mathlib.Core.Option.{Option, none, some}
 use mathlib.Core.List.{List, [], _∷_, _++_}
-use Rattle.meaning.specs.Groups.{overloads, single, firstChild, secondChild, Placed, groupsFrom}
-use Rattle.meaning.specs.Walk.{heads}
+use Rattle.meaning.specs.Groups.{overloads, single, Placed, groupsFrom}
+use Rattle.meaning.specs.Walk.{firstChild, secondChild, heads}
 use Rattle.meaning.proofs.Firsts.{orElse}
 
 pub record Sides (X : Type 0) : Type 0 where

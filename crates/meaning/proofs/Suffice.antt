@@ -1,4 +1,4 @@
--- Complete paths suffice: up to the horizon, the load of any legal path is at most that of some complete path. Assumes nothing.
+-- Complete paths suffice: up to the horizon, the load of any legal path is at most that of some complete path.
 use mathlib.Core.Path.{_≡_, refl, sym, ap, subst, _∙_}
 use Prim.Native.Nat.{ℕ, zero, suc, _-_, _≤_, _<_}
 use native.Mathlib.Nat.{le-refl, le-trans}
@@ -8,7 +8,7 @@ use mathlib.Core.List.{[], _∷_, List·Memᴰ, List·Memᴰ·head}
 use lib.ListN.{length}
 use lib.Dec.{T, ltb, ltb→lt}
 use Rattle.meaning.specs.Table.{Edge, Task}
-use Rattle.meaning.specs.Paths.{Path, separation, outOf, between, someEdge, linked, legal, load, pathsFrom, completePaths}
+use Rattle.meaning.specs.Paths.{Path, separation, outOf, between, linked, legal, load, pathsFrom, completePaths}
 use Rattle.meaning.proofs.Lists.{both-left, both-right}
 use Rattle.meaning.proofs.Edges.{Spaced, link-edge, out-spaced}
 use Rattle.meaning.proofs.Onward.{onward, mem-onward, alone-mem, some-path, mem-complete}
@@ -48,13 +48,13 @@ better k sp zero room v w h l =
     ([], List·Memᴰ·head refl, λ t r. omega (arith, run-mono k v w t 0 (omega arith), run-zero k v w))
 better k sp (suc n) room v [] h l = let s = some-path k (suc n) room v in (s .0, s .1, λ t r. run-one k v (s .0) t)
 better k sp (suc n) room v (u ∷ w) h l =
-    go (link-edge k v u (both-left (someEdge (between k v u)) (linked k u w) l)) (λ x a b. better k sp n (room - x .p) (x .to) w a b)
+    go (link-edge k v u (both-left (ltb 0 (length (between k v u))) (linked k u w) l)) (λ x a b. better k sp n (room - x .p) (x .to) w a b)
   where
     go : (x : Edge) × List·Memᴰ x (outOf k v) × (x .to ≡ u) × (x .p ≡ separation k v u)
         → ((x : Edge) → room - x .p ≤ n → T (linked k (x .to) w) → Better k n (room - x .p) (x .to) w) → Better k (suc n) room v (u ∷ w)
     go (x, m, q, r) ih =
         let one : 1 ≤ x .p = out-spaced k sp v m in
-        let rest : T (linked k (x .to) w) = subst (λ (z : ℕ). T (linked k z w)) (sym q) (both-right (someEdge (between k v u)) (linked k u w) l) in
+        let rest : T (linked k (x .to) w) = subst (λ (z : ℕ). T (linked k z w)) (sym q) (both-right (ltb 0 (length (between k v u))) (linked k u w) l) in
         elim (decLt (x .p) room) [
           | yes a ↦ subst (λ (z : ℕ). Better k (suc n) room v (z ∷ w)) q (by-edge k n room v w x m (r ∙ ap (separation k v) (sym q)) a (ih x (omega arith) rest))
           | no a ↦ no-room k (suc n) room v u w (omega arith)

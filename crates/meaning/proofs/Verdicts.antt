@@ -1,4 +1,4 @@
--- The verdict on a vertex: what each of its cases says, and that the witness is there exactly if some legal paths overload. Assumes nothing.
+-- The verdict on a vertex: what each of its cases says, and that the witness is there exactly if some legal paths overload.
 use mathlib.Core.Path.{_≡_, refl, sym, ap, subst, _∙_}
 use Prim.Native.Nat.{ℕ, _+_, _≤_, _<_}
 use native.Mathlib.Omega.{arith}
@@ -12,15 +12,19 @@ use borrow.Author.Tests.{lt-ltb, le-ltb}
 use Rattle.meaning.specs.Lists.{ticks}
 use Rattle.meaning.specs.Table.{Task, Table, higher}
 use Rattle.meaning.specs.Paths.{Path}
-use Rattle.meaning.specs.Groups.{exceeds, choiceLoads, choiceOverloads, choices, In, witness}
-use Rattle.meaning.specs.Verdict.{Verdict, meets, misses, unfinished, refused, Listed, loadOf, topOf, pathsIn, decided, ownE, deadline}
+use Rattle.meaning.specs.Groups.{exceeds, choiceLoads, choiceOverloads, choices, witness}
+use Rattle.meaning.specs.Verdict.{Verdict, meets, misses, unfinished, refused, Listed, loadOf, topOf, pathsIn, decided, walked, ownE, deadline}
 use Rattle.meaning.specs.Judge.{Row, refusal, judged}
 use Rattle.meaning.specs.Sound.{AllSound}
-use Rattle.meaning.specs.Demands.{Completes, Overload, ChoiceBefore, Overloadable, First, C, Given}
+use Rattle.meaning.specs.Demands.{Completes, Overload, ChoiceBefore, Overloadable, First, C}
 use Rattle.meaning.proofs.Lists.{all-mem, mem-all, mem-countFrom, countFrom-mem}
 use Rattle.meaning.proofs.Firsts.{first-is, first-least}
-use Rattle.meaning.proofs.Groups.{in-choices, choices-in}
+use Rattle.meaning.proofs.Groups.{In, in-choices, choices-in}
 use Rattle.meaning.proofs.Choices.{in-completes, completes-in, completes-legal, in-loads, choice-suffices, Earlier, rising-choices}
+
+-- the walk of vertex v of task i
+abbrev pub walkedAt : Table → ℕ → ℕ → ℕ → Verdict
+walkedAt ts i v b = walked b (higher ts i) (ownE ts i v) (deadline ts i v)
 
 -- ---- the test, at every tick
 
@@ -101,6 +105,13 @@ pub decided-meets : (n : ℕ) (o : Option (List Listed)) (c : ℕ) → decided n
 decided-meets n none c q = (refl, cc)
 decided-meets n (some x) c q = absurd (let z : _≡_ {A = ℕ} 0 1 = cc in omega arith)
 
+-- a meets or a misses
+abbrev pub Given : Verdict → Type 0
+Given (meets c) = Unit {0}
+Given (misses c ws) = Unit {0}
+Given (unfinished b) = ⊥
+Given (refused k place) = ⊥
+
 decided-given : (n : ℕ) (o : Option (List Listed)) → Given (decided n o)
 decided-given n none = tt
 decided-given n (some x) = tt
@@ -119,7 +130,7 @@ module _ (ts : Table) (i v b work wit : ℕ) where
   unfolding judged
   judged-short q h = rw q (rw (lt-ltb b (C ts i v) h))
 
-  judged-refused : (r : Row) → refusal ts i v work wit ≡ some r → judged ts i v b work wit ≡ refused (r .number) (r .place)
+  pub judged-refused : (r : Row) → refusal ts i v work wit ≡ some r → judged ts i v b work wit ≡ refused (r .number) (r .place)
   unfolding judged
   judged-refused r q = rw q
 
@@ -135,10 +146,19 @@ module _ (ts : Table) (i v b work wit : ℕ) where
       go none p (yes l) = absurd (is (unfinished b) (judged-short p l))
       go none p (no l) = (p, omega arith, sym (judged-enough p (omega arith)) ∙ q)
 
-  pub judged-unfinished : (n : ℕ) → judged ts i v b work wit ≡ unfinished n → b < C ts i v
+  pub judged-unfinished : (n : ℕ) → judged ts i v b work wit ≡ unfinished n → (n ≡ b) × (b < C ts i v)
   judged-unfinished n q = go (refusal ts i v work wit) refl (decLt b (C ts i v))
     where
-      go : (o : Option Row) → refusal ts i v work wit ≡ o → Dec (b < C ts i v) → b < C ts i v
-      go o p (yes l) = l
-      go (some r) p (no l) = absurd (let k : refused (r .number) (r .place) ≡ unfinished n = sym (judged-refused r p) ∙ q in let z : _≡_ {A = ℕ} 0 1 = cc in omega arith)
+      go : (o : Option Row) → refusal ts i v work wit ≡ o → Dec (b < C ts i v) → (n ≡ b) × (b < C ts i v)
+      go (some r) p l =
+          absurd (let k : refused (r .number) (r .place) ≡ unfinished n = sym (judged-refused r p) ∙ q in let z : _≡_ {A = ℕ} 0 1 = cc in omega arith)
+      go none p (yes l) = let k : unfinished b ≡ unfinished n = sym (judged-short p l) ∙ q in (cc, l)
       go none p (no l) = absurd (subst Given (sym (judged-enough p (omega arith)) ∙ q) (decided-given (C ts i v) (W ts i v)))
+
+  -- refused by a row alone
+  pub judged-row : refusal ts i v work wit ≡ none → (k place : ℕ) → judged ts i v b work wit ≡ refused k place → ⊥
+  judged-row p k place q = go (decLt b (C ts i v))
+    where
+      go : Dec (b < C ts i v) → ⊥
+      go (yes l) = let e : unfinished b ≡ refused k place = sym (judged-short p l) ∙ q in let z : _≡_ {A = ℕ} 0 1 = cc in omega arith
+      go (no l) = subst Given (sym (judged-enough p (omega arith)) ∙ q) (decided-given (C ts i v) (W ts i v))

@@ -1,23 +1,25 @@
--- The whole table's verdicts are those of its vertices, each judged with a witness area that is long enough. Assumes nothing.
+-- The whole table's verdicts are those of its vertices, each judged with a witness area that is long enough.
 use mathlib.Core.Path.{_≡_, refl, sym, ap, subst, _∙_}
 use Prim.Native.Nat.{ℕ, suc, _+_, _-_, _≤_, _<_}
 use native.Mathlib.Nat.{le-refl, le-trans, mul-le-mul}
 use native.Mathlib.Omega.{arith}
 use mathlib.Core.Bool.{Bool, true, false}
+use mathlib.Core.Option.{some}
 use mathlib.Core.Logic.{_⊎_, inl, inr}
-use mathlib.Core.List.{List, [], _∷_, map, List·Memᴰ, List·Memᴰ·append-cases, List·Memᴰ·not-nil, Memᴰ·of-map}
+use mathlib.Core.List.{List, [], _∷_, _++_, map, List·Memᴰ, List·Memᴰ·append-cases, List·Memᴰ·not-nil, Memᴰ·of-map}
 use lib.ListN.{length, getD}
 use borrow.Author.Tests.{lt-ltb, le-ltb}
 use Rattle.meaning.specs.Lists.{below}
 use Rattle.meaning.specs.Bounds.{deskWitness, largestD}
 use Rattle.meaning.specs.Table.{Task, Table, noTask, noVertex, taskAt, vertexAt}
-use Rattle.meaning.specs.Verdict.{deadline, walkedAt}
+use Rattle.meaning.specs.Verdict.{refused, deadline}
 use Rattle.meaning.specs.Areas.{witnessNeed}
-use Rattle.meaning.specs.Judge.{Row, row8, row9, row10, row11, firstRow, unlessRefused, judged}
+use Rattle.meaning.specs.Judge.{Row, row8, row9, row10, row11, refusal, unlessRefused, judged}
 use Rattle.meaning.specs.Whole.{Place, placesFrom, places, verdictAt}
 use Rattle.meaning.specs.Sound.{SoundTable}
 use Rattle.meaning.proofs.Lists.{countFrom-mem, mem-getD}
-use Rattle.meaning.proofs.Refusals.{row-none, row-some}
+use Rattle.meaning.proofs.Refusals.{firstRow, row-none, row-some}
+use Rattle.meaning.proofs.Verdicts.{walkedAt, judged-refused, judged-row}
 
 -- ---- the vertices of a table
 
@@ -55,25 +57,65 @@ place-in ts q m =
     let e : q .task - 0 ≡ q .task = omega arith in
     (omega (arith, r .task), subst (λ (j : ℕ). q .vertex < length (getD ts j noTask .vertices)) e (r .vertex))
 
--- ---- rows 8 and 11 don't hold of them
+-- ---- each is judged as with any witness area that is long enough
 
-last-none : (r s t : Row) → t .holds ≡ false → firstRow (r ∷ s ∷ t ∷ []) ≡ firstRow (r ∷ s ∷ [])
-last-none r s t h = go (r .holds) refl (s .holds) refl
+last-row : (rows : List Row) (r s : Row) → r .holds ≡ false → s .holds ≡ false → firstRow (rows ++ (r ∷ [])) ≡ firstRow (rows ++ (s ∷ []))
+last-row [] r s p q = row-none r [] p ∙ sym (row-none s [] q)
+last-row (x ∷ rows) r s p q = go (x .holds) refl (last-row rows r s p q)
   where
-    go : (a : Bool) → r .holds ≡ a → (b : Bool) → s .holds ≡ b → firstRow (r ∷ s ∷ t ∷ []) ≡ firstRow (r ∷ s ∷ [])
-    go true p b q = row-some r (s ∷ t ∷ []) p ∙ sym (row-some r (s ∷ []) p)
-    go false p true q = row-none r (s ∷ t ∷ []) p ∙ row-some s (t ∷ []) q ∙ sym (row-none r (s ∷ []) p ∙ row-some s [] q)
-    go false p false q = row-none r (s ∷ t ∷ []) p ∙ row-none s (t ∷ []) q ∙ row-none t [] h ∙ sym (row-none r (s ∷ []) p ∙ row-none s [] q)
+    go : (a : Bool) → x .holds ≡ a → firstRow (rows ++ (r ∷ [])) ≡ firstRow (rows ++ (s ∷ [])) → firstRow (x ∷ rows ++ (r ∷ [])) ≡ firstRow (x ∷ rows ++ (s ∷ []))
+    go true e ih = row-some x (rows ++ (r ∷ [])) e ∙ sym (row-some x (rows ++ (s ∷ [])) e)
+    go false e ih = row-none x (rows ++ (r ∷ [])) e ∙ ih ∙ sym (row-none x (rows ++ (s ∷ [])) e)
 
-pub verdict-at : (ts : Table) (b work wit : ℕ) (q : Place) → List·Memᴰ q (places ts) → witnessNeed ts (q .task) (q .vertex) ≤ wit → verdictAt ts b work q ≡ judged ts (q .task) (q .vertex) b work wit
-unfolding verdictAt judged
-verdict-at ts b work wit q m h =
+pub verdict-at : (ts : Table) (b work wit : ℕ) (q : Place) → witnessNeed ts (q .task) (q .vertex) ≤ wit
+    → verdictAt ts b work q ≡ judged ts (q .task) (q .vertex) b work wit
+unfolding judged refusal
+verdict-at ts b work wit q h =
     let i = q .task in
     let v = q .vertex in
-    let p = place-in ts q m in
+    let need = witnessNeed ts i v in
     ap (λ o. unlessRefused o (walkedAt ts i v b))
-    (sym (row-none (row8 ts i v) (row9 ts i v ∷ row10 ts i v work ∷ row11 ts i v wit ∷ []) (rw (lt-ltb i (length ts) (p .0), lt-ltb v (length (taskAt ts i .vertices)) (p .1)))
-    ∙ last-none (row9 ts i v) (row10 ts i v work) (row11 ts i v wit) (le-ltb wit (witnessNeed ts i v) h)))
+    (last-row (row8 ts i v ∷ row9 ts i v ∷ row10 ts i v work ∷ []) (row11 ts i v need) (row11 ts i v wit)
+    (le-ltb need need (le-refl need)) (le-ltb wit need h))
+
+-- ---- of the sheet only 9 and 10 are left
+
+module _ (ts : Table) (b work : ℕ) (q : Place) (m : List·Memᴰ q (places ts)) where
+  abbrev i : ℕ
+  i = q .task
+
+  abbrev v : ℕ
+  v = q .vertex
+
+  abbrev need : ℕ
+  need = witnessNeed ts i v
+
+  past-8 : refusal ts i v work need ≡ firstRow (row9 ts i v ∷ row10 ts i v work ∷ row11 ts i v need ∷ [])
+  unfolding refusal
+  past-8 =
+      let p = place-in ts q m in
+      row-none (row8 ts i v) (row9 ts i v ∷ row10 ts i v work ∷ row11 ts i v need ∷ [])
+      (rw (lt-ltb i (length ts) (p .0), lt-ltb v (length (taskAt ts i .vertices)) (p .1)))
+
+  by-row : (r : Row) {k place : ℕ} → refusal ts i v work need ≡ some r → verdictAt ts b work q ≡ refused k place → r .number ≡ k
+  by-row r h e = let x : refused (r .number) (r .place) ≡ refused _ _ = sym (judged-refused ts i v b work need r h) ∙ e in cc
+
+  pub nine-or-ten : (k place : ℕ) → verdictAt ts b work q ≡ refused k place → (k ≡ 9) ⊎ (k ≡ 10)
+  nine-or-ten k place e = go (row9 ts i v .holds) refl (row10 ts i v work .holds) refl
+    where
+      behind9 : List Row
+      behind9 = row10 ts i v work ∷ row11 ts i v need ∷ []
+
+      go : (x : Bool) → row9 ts i v .holds ≡ x → (y : Bool) → row10 ts i v work .holds ≡ y → (k ≡ 9) ⊎ (k ≡ 10)
+      go true p y r = inl (sym (by-row (row9 ts i v) (past-8 ∙ row-some (row9 ts i v) behind9 p) e))
+      go false p true r =
+          inr (sym (by-row (row10 ts i v work) (past-8 ∙ row-none (row9 ts i v) behind9 p ∙ row-some (row10 ts i v work) (row11 ts i v need ∷ []) r) e))
+      go false p false r =
+          absurd
+          (judged-row ts i v b work need
+          (past-8 ∙ row-none (row9 ts i v) behind9 p ∙ row-none (row10 ts i v work) (row11 ts i v need ∷ []) r
+          ∙ row-none (row11 ts i v need) [] (le-ltb need need (le-refl need)))
+          k place e)
 
 -- ---- the desk's witness area is always long enough
 

@@ -1,4 +1,4 @@
--- The witness, the least overloading choice, is what the recursion over the sides finds. Assumes nothing.
+-- The witness, the least overloading choice, is what the recursion over the sides finds.
 use mathlib.Core.Path.{_≡_, refl, sym, ap, ap₂, subst, _∙_}
 use Prim.Native.Nat.{ℕ, zero, suc, _≤_}
 use native.Mathlib.Nat.{le-refl}
@@ -10,8 +10,8 @@ use mathlib.Core.List.{List, [], _∷_, map}
 use lib.ListN.{length}
 use lib.Dec.{T}
 use Rattle.meaning.specs.Lists.{sum, firstThat}
-use Rattle.meaning.specs.Groups.{choiceLoads, groupLoads, overloads, choiceOverloads, single, firstChild, secondChild, choices, witness}
-use Rattle.meaning.specs.Walk.{heads}
+use Rattle.meaning.specs.Groups.{choiceLoads, groupLoads, overloads, choiceOverloads, single, choices, witness}
+use Rattle.meaning.specs.Walk.{firstChild, secondChild, heads}
 use Rattle.meaning.proofs.Lists.{is-true}
 use Rattle.meaning.proofs.Firsts.{orElse, firstThat-append, firstThat-none}
 use Rattle.meaning.proofs.Groups.{exceeds-mono, choices-in, quiet-choice, split-choices, first-part, second-part, full, full-child, excess, excess-le, excess-single, excess-child}

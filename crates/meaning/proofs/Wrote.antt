@@ -1,4 +1,4 @@
--- Writing into a lent area, one run of cells after the other. Assumes nothing.
+-- Writing into a lent area, one run of cells after the other.
 use mathlib.Core.Path.{_≡_, refl, sym, ap, ap₂, subst, _∙_}
 use Prim.Native.Nat.{ℕ, suc, _+_, _≤_, _<_}
 use native.Mathlib.Nat.{add-zero}

@@ -1,13 +1,14 @@
--- Lent areas: what a vertex needs of them, and what they hold after its verdict. Assumes nothing.
+-- Lent areas: what a vertex needs of them, and what they hold after its verdict.
 use mathlib.Core.Path.{_≡_}
 use Prim.Native.Nat.{ℕ, _+_, _-_, _*_}
 use mathlib.Core.List.{List, _++_, map}
 use lib.ListN.{length, drop, replicate}
 use lib.Seq.{sets}
-use Rattle.meaning.specs.Lists.{sum}
+use lib.Dec.{eqb}
+use Rattle.meaning.specs.Lists.{pick, sum}
 use Rattle.meaning.specs.Table.{Task, Table, higher}
 use Rattle.meaning.specs.Paths.{pathsOf}
-use Rattle.meaning.specs.Verdict.{Verdict, meets, misses, unfinished, refused, cellsOf, deadline}
+use Rattle.meaning.specs.Verdict.{Verdict, kindOf, missPaths, cellsOf, deadline}
 
 -- ---- needs
 
@@ -37,19 +38,17 @@ zeroed n cells = replicate n 0 ++ drop n cells
 abbrev pub written : List ℕ → List ℕ → List ℕ
 written front cells = front ++ drop (length front) cells
 
--- after any of the three verdicts the needed cells are zero; no refusal changes a lent area
-abbrev pub workAfter : Verdict → ℕ → List ℕ → List ℕ
-workAfter (meets c) need cells = zeroed need cells
-workAfter (misses c ws) need cells = zeroed need cells
-workAfter (unfinished b) need cells = zeroed need cells
-workAfter (refused k place) need cells = cells
+-- after any of the three verdicts the needed cells, after a refusal none
+abbrev pub needUnless : Verdict → ℕ → ℕ
+needUnless x need = pick (eqb (kindOf x) 3) 0 need
 
--- on a miss its front holds, per higher task in order, the path's length and vertices
+-- the needed cells are zero and the rest unchanged; no refusal changes a lent area
+abbrev pub workAfter : Verdict → ℕ → List ℕ → List ℕ
+workAfter x need cells = zeroed (needUnless x need) cells
+
+-- on a miss its front holds, per higher task in order, the path's length and vertices; the other verdicts don't touch it
 abbrev pub witnessAfter : Verdict → List ℕ → List ℕ
-witnessAfter (meets c) cells = cells
-witnessAfter (misses c ws) cells = written (cellsOf ws) cells
-witnessAfter (unfinished b) cells = cells
-witnessAfter (refused k place) cells = cells
+witnessAfter x cells = written (cellsOf (missPaths x)) cells
 
 -- ---- what writing into a lent area promises
 

@@ -1,5 +1,5 @@
--- The bench examples R1 to R8, as one table under one claim. Assumes nothing.
-use Prim.Native.Nat.{ℕ}
+-- The bench examples R1 to R8, as one table under one claim; `proofs/Bench` proves it.
+use Prim.Native.Nat.{ℕ, _-_, _*_}
 use Prim.Native.Char.{code}
 use Prim.Native.String.{String, [] as []ˢ, _∷_ as _∷ˢ_}
 use mathlib.Core.Bool.{Bool, true, false, _&&_}
@@ -7,9 +7,10 @@ use mathlib.Core.List.{List, [], _∷_, _++_}
 use lib.Dec.{T, eqb}
 use Rattle.meaning.specs.Lists.{all}
 use Rattle.meaning.specs.Bounds.{deskBudget, deskWork, deskWitness}
-use Rattle.meaning.specs.Table.{Task, Table, vertex, edge, task}
+use Rattle.meaning.specs.Table.{Task, Table, vertex, edge, task, higher}
 use Rattle.meaning.specs.Paths.{completePaths}
-use Rattle.meaning.specs.Verdict.{Verdict, meets, misses, unfinished, refused, numbers, cellsOf}
+use Rattle.meaning.specs.Groups.{P}
+use Rattle.meaning.specs.Verdict.{Verdict, numbers, cellsOf, missPaths, topOf, deadline}
 use Rattle.meaning.specs.Judge.{judged}
 use Rattle.meaning.specs.Desk.{output}
 
@@ -71,15 +72,9 @@ r1Out = "1000000000000001\n1001000000000001\n1002000100000001\n1100020000\n11010
 abbrev pub pathList : Task → ℕ → List ℕ
 pathList k horizon = cellsOf (completePaths k horizon)
 
-abbrev pub cells : Verdict → List ℕ
-cells (meets c) = []
-cells (misses c ws) = cellsOf ws
-cells (unfinished b) = []
-cells (refused k place) = []
-
 -- the first vertex of task i with budget b and the desk's areas: the verdict in numbers, then a miss's cells
 abbrev pub shown : Verdict → List ℕ
-shown x = numbers x ++ cells x
+shown x = numbers x ++ cellsOf (missPaths x)
 
 abbrev pub judgedWith : ℕ → Table → ℕ → List ℕ
 judgedWith b ts i = shown (judged ts i 0 b deskWork deskWitness)
@@ -99,9 +94,10 @@ examples =
     ∷ (judgedWith deskBudget (r5 5) 1 gives (0 ∷ 1 ∷ []))
     -- R6: misses, C = 3, path (1)
     ∷ (judgedWith deskBudget (r5 4) 1 gives (1 ∷ 3 ∷ 2 ∷ 1 ∷ 1 ∷ []))
-    -- R7: paths (0), (1,2), (2); meets, C = 5
+    -- R7: paths (0), (1,2), (2); meets, C = 5 = 2P - 1
     ∷ (pathList r7above 5 gives (1 ∷ 0 ∷ 2 ∷ 1 ∷ 2 ∷ 1 ∷ 2 ∷ []))
     ∷ (judgedWith deskBudget r7 1 gives (0 ∷ 5 ∷ []))
+    ∷ (((2 * P (topOf (higher r7 1) (deadline r7 1 0)) - 1) ∷ []) gives (5 ∷ []))
     -- R8: budgets 0, 4, 5, 6
     ∷ (judgedWith 0 r7 1 gives (2 ∷ 0 ∷ []))
     ∷ (judgedWith 4 r7 1 gives (2 ∷ 4 ∷ []))

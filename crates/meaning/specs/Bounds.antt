@@ -1,4 +1,5 @@
--- Every number that document 01 sets, once. Assumes nothing.
+-- The bounds that document 01 sets on tables, judging and the desk program, each once, and what follows from them. The numbers of frames and refusals
+-- stand where these are defined.
 use Prim.Native.Nat.{ℕ, _+_, _-_, _*_}
 
 -- ---- a table
@@ -61,20 +62,9 @@ verdictLine = lineLength 8
 abbrev pub countsLine : ℕ
 countsLine = lineLength 5
 
--- 1e, number, line in 2 bytes
-abbrev pub refusalLine : ℕ
-refusalLine = lineLength 4
-
--- 11, task, length and n vertices
-abbrev pub pathLine : ℕ → ℕ
-pathLine n = lineLength (3 + n)
-
-abbrev pub longestPathLine : ℕ
-longestPathLine = pathLine largestD
-
--- a vertex's verdict, and a path for each higher task
+-- a vertex's verdict, and for each higher task the longest path: 11, task, length, vertices
 abbrev pub longestVertex : ℕ
-longestVertex = verdictLine + mostHigher * longestPathLine
+longestVertex = verdictLine + mostHigher * lineLength (3 + largestD)
 
 -- every vertex, then the counts
 abbrev pub longestOutput : ℕ

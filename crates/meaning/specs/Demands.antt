@@ -1,23 +1,19 @@
--- The demands, and what they rest on, as statements about the definitions. `proofs/Demands` proves each of them. Assumes nothing.
+-- The words of the demands, which `judge/specs/Demands` states of the calls, and what document 01 says of paths and of a whole table;
+-- `proofs/Demands` proves that.
 use mathlib.Core.Path.{_≡_}
-use Prim.Native.Nat.{ℕ, _+_, _-_, _*_, _≤_, _<_}
-use mathlib.Core.Bool.{false, _&&_}
+use Prim.Native.Nat.{ℕ, _+_, _≤_, _<_}
+use mathlib.Core.Bool.{_&&_}
 use mathlib.Core.Logic.{_⊎_, _↔_}
-use mathlib.Core.Option.{none}
-use mathlib.Core.List.{List, [], _∷_, _++_, map, List·Memᴰ}
+use mathlib.Core.List.{List, [], _∷_, map, List·Memᴰ}
 use lib.ListN.{length}
 use lib.Dec.{T}
-use Rattle.meaning.specs.Bounds.{mostTasks}
-use Rattle.meaning.specs.Text.{mostLines}
-use Rattle.meaning.specs.Lists.{sum, product, Rising}
+use Rattle.meaning.specs.Text.{readable, read}
+use Rattle.meaning.specs.Lists.{sum, Rising}
 use Rattle.meaning.specs.Table.{Task, Table, higher}
 use Rattle.meaning.specs.Paths.{Path, legal, complete, load, completePaths, pathsOf, Before}
-use Rattle.meaning.specs.Groups.{overloads, choiceOverloads, single, firstChild, secondChild, choices, In, count, witness}
-use Rattle.meaning.specs.Walk.{run, ended, cut}
-use Rattle.meaning.specs.Verdict.{Verdict, meets, misses, unfinished, refused, loadOf, topOf, ownE, deadline}
-use Rattle.meaning.specs.Areas.{witnessNeed}
-use Rattle.meaning.specs.Judge.{refusal, judged, answer}
-use Rattle.meaning.specs.Whole.{Place, places, verdictAt, countsOf, verdicts}
+use Rattle.meaning.specs.Groups.{count}
+use Rattle.meaning.specs.Verdict.{refused, loadOf, topOf, ownE, deadline}
+use Rattle.meaning.specs.Whole.{Place, places, verdictAt}
 
 -- ---- one path of each task
 
@@ -26,10 +22,6 @@ EachOf Q [] [] = Unit {0}
 EachOf Q [] (w ∷ ws) = ⊥
 EachOf Q (k ∷ ks) [] = ⊥
 EachOf Q (k ∷ ks) (w ∷ ws) = Q k w × EachOf Q ks ws
-
--- a legal path of each, of any length
-abbrev pub Legals : List Task → List Path → Type 0
-Legals ks ws = EachOf (λ (k : Task) (w : Path). T (legal k w)) ks ws
 
 -- one of document 01's complete paths of each
 abbrev pub Completes : ℕ → List Task → List Path → Type 0
@@ -55,7 +47,8 @@ ChoiceBefore (w ∷ ws) (u ∷ us) = Before w u ⊎ ((w ≡ u) × ChoiceBefore w
 
 -- some legal path from each of the higher tasks, of any length, together overload every tick up to the deadline
 abbrev pub Overloadable : Table → ℕ → ℕ → Type 0
-Overloadable ts i v = (ws : List Path) × Legals (higher ts i) ws × Overload (higher ts i) (ownE ts i v) (deadline ts i v) ws
+Overloadable ts i v =
+    (ws : List Path) × EachOf (λ (k : Task) (w : Path). T (legal k w)) (higher ts i) ws × Overload (higher ts i) (ownE ts i v) (deadline ts i v) ws
 
 -- the first such among document 01's complete paths, in its order
 pub record First (ts : Table) (i v : ℕ) (ws : List Path) : Type 0 where
@@ -68,88 +61,29 @@ pub record First (ts : Table) (i v : ℕ) (ws : List Path) : Type 0 where
 abbrev pub C : Table → ℕ → ℕ → ℕ
 C ts i v = count loadOf (ownE ts i v) (deadline ts i v) (topOf (higher ts i) (deadline ts i v))
 
--- no refusal of 8 to 11 applies
-abbrev pub Admitted : Table → ℕ → ℕ → ℕ → ℕ → Type 0
-Admitted ts i v work wit = refusal ts i v work wit ≡ none
-
--- "For a vertex judged under the tasks of higher priority, its own task's earlier jobs done, "misses" is said only if some legal path from each of
--- those tasks, of any length, together overload every tick up to the deadline [..]. The paths returned are the first such among document 01's
--- complete paths, in its order. "Meets" is said only if there are none."
-pub record Demand2 (text : List ℕ) (ts : Table) (i v b work wit : ℕ) : Type 0 where
-  pub misses-only : (c : ℕ) (ws : List Path) → answer text i v b work wit ≡ misses c ws
-      → Overloadable ts i v × First ts i v ws × (c ≡ C ts i v)
-  pub meets-only : (c : ℕ) → answer text i v b work wit ≡ meets c → (Overloadable ts i v → ⊥) × (c ≡ C ts i v)
-  pub misses-if : Admitted ts i v work wit → C ts i v ≤ b → Overloadable ts i v
-      → (ws : List Path) × (answer text i v b work wit ≡ misses (C ts i v) ws)
-  pub meets-if : Admitted ts i v work wit → C ts i v ≤ b → (Overloadable ts i v → ⊥) → answer text i v b work wit ≡ meets (C ts i v)
-
--- ---- demand 3
-
--- a meets or a misses
-abbrev pub Given : Verdict → Type 0
-Given (meets c) = Unit {0}
-Given (misses c ws) = Unit {0}
-Given (unfinished b) = ⊥
-Given (refused k place) = ⊥
-
--- "For one table and vertex, a larger budget or larger areas never alter a "meets" or a "misses" once given, its paths or its count. When no refusal
--- applies, "unfinished" is given exactly if the budget is below the number of groups that document 01's rule has to examine, and that number is
--- at most twice the product of the tasks' path counts, less one."
-pub record Demand3 (text : List ℕ) (ts : Table) (i v : ℕ) : Type 0 where
-  pub lasting : (b b′ work work′ wit wit′ : ℕ) → b ≤ b′ → work ≤ work′ → wit ≤ wit′
-      → Given (answer text i v b work wit) → answer text i v b′ work′ wit′ ≡ answer text i v b work wit
-  pub unfinished-if : (b work wit : ℕ) → Admitted ts i v work wit → b < C ts i v → answer text i v b work wit ≡ unfinished b
-  pub unfinished-only : (b work wit n : ℕ) → answer text i v b work wit ≡ unfinished n → b < C ts i v
-  pub some : 1 ≤ C ts i v
-  pub few : C ts i v ≤ 2 * product (map (λ (k : Task). length (pathsOf k (deadline ts i v))) (higher ts i)) - 1
-
 -- ---- paths
 
--- Demand 2 speaks of all paths; the complete ones suffice.
-pub record PathsSuffice (k : Task) (d : ℕ) : Type 0 where
-  pub suffice : (w : Path) → T (legal k w) → (c : Path) × List·Memᴰ c (pathsOf k d) × ((t : ℕ) → t ≤ d → load k w t ≤ load k c t)
+-- a task of a table that some text means
+abbrev pub Readable : Task → Type 0
+Readable k = (text : List ℕ) × (ts : Table) × (read text ≡ readable ts) × List·Memᴰ k ts
 
--- The list has exactly the legal complete paths, strictly rising, each of at most d vertices.
-pub record PathsListed (k : Task) (d : ℕ) : Type 0 where
-  pub exactly : (c : Path) → List·Memᴰ c (completePaths k d) ↔ T (legal k c && complete k d c)
-  pub rising : Rising Before (completePaths k d)
-  pub short : (c : Path) → List·Memᴰ c (completePaths k d) → length c ≤ d
+-- "Demand 2 is stated over all paths; that complete ones suffice is to be proved."
+abbrev pub PathsSuffice : Type 0
+PathsSuffice = (k : Task) → Readable k → (d : ℕ) (w : Path) → T (legal k w)
+    → (c : Path) × List·Memᴰ c (pathsOf k d) × ((t : ℕ) → t ≤ d → load k w t ≤ load k c t)
 
--- ---- groups
+-- The list has exactly the legal complete paths, at least one, strictly rising, each of at most d vertices.
+pub record PathsListed : Type 0 where
+  pub exactly : (k : Task) → Readable k → (d : ℕ) → 1 ≤ d → (c : Path) → List·Memᴰ c (completePaths k d) ↔ T (legal k c && complete k d c)
+  pub some : (k : Task) → Readable k → (d : ℕ) → 1 ≤ length (completePaths k d)
+  pub rising : (k : Task) → Readable k → (d : ℕ) → Rising Before (completePaths k d)
+  pub short : (k : Task) → Readable k → (d : ℕ) → 1 ≤ d → (c : Path) → List·Memᴰ c (completePaths k d) → length c ≤ d
 
-module _ {X : Type 0} (load : X → ℕ → ℕ) (e d : ℕ) where
-  -- A choice that overloads makes every group that holds it overload; so a group that doesn't overload hides nothing.
-  pub record GroupsHide : Type 0 where
-    pub holds : (c : List X) (g : List (List X)) → In c g → T (choiceOverloads load e d c) → T (overloads load e d g)
-    pub hides : (g : List (List X)) → overloads load e d g ≡ false → (c : List X) → In c g → choiceOverloads load e d c ≡ false
-    pub children : (g : List (List X)) → single g ≡ false → choices (firstChild g) ++ choices (secondChild g) ≡ choices g
-
-  -- The walk sees exactly C groups and finds exactly the witness, or is cut short exactly if the budget is below C.
-  pub record WalkSees (top : List (List X)) : Type 0 where
-    pub enough : (b : ℕ) → count load e d top ≤ b → run load e d b (top ∷ []) 0 ≡ ended (count load e d top) (witness load e d top)
-    pub short : (b : ℕ) → b < count load e d top → run load e d b (top ∷ []) 0 ≡ cut
-
--- ---- the whole table
+-- ---- a whole table
 
 abbrev pub vertexTotal : Table → ℕ
 vertexTotal ts = sum (map (λ (k : Task). length (k .vertices)) ts)
 
--- A whole table's verdicts are those of its vertices. The four counts add up to their number; more budget never lowers the first two.
-pub record FourCounts (ts : Table) (work : ℕ) : Type 0 where
-  pub each : (b wit : ℕ) (q : Place) → List·Memᴰ q (places ts) → witnessNeed ts (q .task) (q .vertex) ≤ wit
-      → verdictAt ts b work q ≡ judged ts (q .task) (q .vertex) b work wit
-  pub adds-up : (b : ℕ) → (let n = countsOf (verdicts ts b work) in n .meeting + n .missing + n .unfinishing + n .refusing) ≡ vertexTotal ts
-  pub meets-more : (b b′ : ℕ) → b ≤ b′ → countsOf (verdicts ts b work) .meeting ≤ countsOf (verdicts ts b′ work) .meeting
-  pub misses-more : (b b′ : ℕ) → b ≤ b′ → countsOf (verdicts ts b work) .missing ≤ countsOf (verdicts ts b′ work) .missing
-
--- ---- refusals of the text
-
--- the last line that a refusal can name: eight whole tasks, the end frame, and the line after it
-abbrev pub lastLine : ℕ
-lastLine = mostTasks * mostLines + 2
-
-pub record TextRefused (k n : ℕ) : Type 0 where
-  pub low : 1 ≤ k
-  pub high : k ≤ 7
-  pub first : 1 ≤ n
-  pub last : n ≤ lastLine
+-- Its vertices "are refused by 9 or 10".
+abbrev pub NineOrTen : Type 0
+NineOrTen = (ts : Table) (b n : ℕ) (q : Place) → List·Memᴰ q (places ts) → (k place : ℕ) → verdictAt ts b n q ≡ refused k place → (k ≡ 9) ⊎ (k ≡ 10)

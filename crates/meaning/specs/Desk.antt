@@ -1,15 +1,15 @@
--- The desk program: from the bytes that it reads to the bytes that it writes. Assumes nothing.
+-- The desk program: from the bytes that it reads to the bytes that it writes.
 use Prim.Native.Nat.{ℕ, suc, _+_, _/_, _%_}
 use mathlib.Core.Bool.{true, false}
 use mathlib.Core.List.{List, [], _∷_, _++_, map}
-use lib.ListN.{length}
+use lib.ListN.{length, getD}
 use lib.Dec.{ltb}
 use Rattle.meaning.specs.Lists.{pick, gather}
 use Rattle.meaning.specs.Bounds.{longestInput, deskWork, deskWitness, deskBudget}
 use Rattle.meaning.specs.Table.{Table}
 use Rattle.meaning.specs.Text.{Reading, readable, unreadable, read, lineFeed}
 use Rattle.meaning.specs.Paths.{Path}
-use Rattle.meaning.specs.Verdict.{Verdict, meets, misses, unfinished, refused}
+use Rattle.meaning.specs.Verdict.{Verdict, numbers, kindOf, missPaths}
 use Rattle.meaning.specs.Judge.{judged}
 use Rattle.meaning.specs.Whole.{Place, places, Counts, countsOf}
 
@@ -40,24 +40,18 @@ line f = gather digits f ++ (lineFeed ∷ [])
 abbrev pub verdictFrame : Place → ℕ → ℕ → List ℕ
 verdictFrame q kind n = 16 ∷ q .task ∷ q .vertex ∷ kind ∷ four n
 
--- 11, task, length
-abbrev pub pathHead : ℕ → ℕ → List ℕ
-pathHead i n = 17 ∷ i ∷ n ∷ []
-
 -- 11, task, length, vertices
 abbrev pub pathFrame : ℕ → Path → List ℕ
-pathFrame i w = pathHead i (length w) ++ w
+pathFrame i w = 17 ∷ i ∷ length w ∷ w
 
 -- one a higher task, from task i on
 abbrev pub pathFrames : ℕ → List Path → List (List ℕ)
 pathFrames i [] = []
 pathFrames i (w ∷ ws) = pathFrame i w ∷ pathFrames (suc i) ws
 
+-- a verdict's frame has its kind, and its count, budget or refusal number
 abbrev pub vertexFrames : Place → Verdict → List (List ℕ)
-vertexFrames q (meets c) = verdictFrame q 0 c ∷ []
-vertexFrames q (misses c ws) = verdictFrame q 1 c ∷ pathFrames 0 ws
-vertexFrames q (unfinished b) = verdictFrame q 2 b ∷ []
-vertexFrames q (refused k place) = verdictFrame q 3 k ∷ []
+vertexFrames q x = verdictFrame q (kindOf x) (getD (numbers x) 1 0) ∷ pathFrames 0 (missPaths x)
 
 -- 1f and the four counts
 abbrev pub countsFrame : Counts → List ℕ

@@ -1,9 +1,9 @@
--- The walk through groups: ranges, groups, their tree, the witness and the number C. Assumes nothing.
+-- The walk through groups: ranges, groups, their tree, the witness and the number C.
 -- Of a path only its load plays a part here, so all of it is over any type X of paths with a load at each tick.
 use Prim.Native.Nat.{ℕ, zero, suc, _+_, _/_}
 use mathlib.Core.Bool.{Bool, true, false, not, _&&_}
 use mathlib.Core.Option.{Option}
-use mathlib.Core.List.{List, [], _∷_, _++_, map, List·Memᴰ}
+use mathlib.Core.List.{List, [], _∷_, _++_, map}
 use lib.ListN.{length, take, drop}
 use lib.Dec.{ltb}
 use Rattle.meaning.specs.Lists.{pick, all, those, sum, product, largest, gather, firstThat, upTo, ticks}
@@ -58,12 +58,6 @@ module _ {X : Type 0} where
   childBy part [] = []
   childBy part (r ∷ rs) = pick (long r) (part r ∷ rs) (r ∷ childBy part rs)
 
-  abbrev pub firstChild : List (List X) → List (List X)
-  firstChild g = childBy firstPart g
-
-  abbrev pub secondChild : List (List X) → List (List X)
-  secondChild g = childBy secondPart g
-
 -- ---- all groups, in the walk's order
 
 -- a group and its parents, up to the top
@@ -80,7 +74,7 @@ module _ {X : Type 0} where
         | true ↦ record { group = g; parents = parents } ∷ []
         | false ↦
             record { group = g; parents = parents }
-            ∷ (groupsFrom depth (g ∷ parents) (firstChild g) ++ groupsFrom depth (g ∷ parents) (secondChild g))
+            ∷ (groupsFrom depth (g ∷ parents) (childBy firstPart g) ++ groupsFrom depth (g ∷ parents) (childBy secondPart g))
       ]
 
   abbrev pub allGroups : List (List X) → List (Placed X)
@@ -90,13 +84,6 @@ module _ {X : Type 0} where
   abbrev pub choices : List (List X) → List (List X)
   choices [] = [] ∷ []
   choices (r ∷ rs) = gather (λ (x : X). map (λ (c : List X). x ∷ c) (choices rs)) r
-
-  -- a choice is in a group: one path of each range
-  abbrev pub In : List X → List (List X) → Type 0
-  In [] [] = Unit {0}
-  In [] (r ∷ g) = ⊥
-  In (x ∷ c) [] = ⊥
-  In (x ∷ c) (r ∷ g) = List·Memᴰ x r × In c g
 
   -- the product of path counts, 1 when there are no higher tasks
   abbrev pub P : List (List X) → ℕ

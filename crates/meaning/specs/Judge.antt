@@ -1,4 +1,4 @@
--- A judging call: the text, then the refusal sheet's rows 8 to 11, then the walk. Assumes nothing.
+-- A judging call: the text, then the refusal sheet's rows 8 to 11, then the walk.
 use Prim.Native.Nat.{ℕ}
 use mathlib.Core.Bool.{Bool, not, _&&_}
 use mathlib.Core.Option.{Option, none, some}
@@ -7,10 +7,10 @@ use lib.ListN.{length, getD}
 use lib.Dec.{ltb}
 use Rattle.meaning.specs.Lists.{firstThat, those, below}
 use Rattle.meaning.specs.Bounds.{mostPaths}
-use Rattle.meaning.specs.Table.{Table, taskAt}
+use Rattle.meaning.specs.Table.{Table, taskAt, higher}
 use Rattle.meaning.specs.Text.{Reading, readable, unreadable, read}
 use Rattle.meaning.specs.Paths.{pathsOf}
-use Rattle.meaning.specs.Verdict.{Verdict, refused, walked, walkedAt, deadline}
+use Rattle.meaning.specs.Verdict.{Verdict, refused, walked, ownE, deadline}
 use Rattle.meaning.specs.Areas.{workNeed, witnessNeed}
 
 -- a row of the refusal sheet: whether it holds, and what is returned with it
@@ -39,14 +39,11 @@ row10 ts i v work = record { number = 10; holds = ltb work (workNeed ts i v); pl
 abbrev pub row11 : Table → ℕ → ℕ → ℕ → Row
 row11 ts i v wit = record { number = 11; holds = ltb wit (witnessNeed ts i v); place = witnessNeed ts i v }
 
--- each is given exactly when its row holds and none before it in this order does
-abbrev pub firstRow : List Row → Option Row
-firstRow rows = firstThat (λ (r : Row). r .holds) rows
-
--- the row that refuses vertex v of task i, with so many work and witness cells
+-- the row that refuses vertex v of task i, with so many work and witness cells: "each is given exactly when its row holds and none before it in this
+-- order does"
 unfoldable pub refusal : Table → ℕ → ℕ → ℕ → ℕ → Option Row
 unfolding pathsOf
-refusal ts i v work wit = firstRow (row8 ts i v ∷ row9 ts i v ∷ row10 ts i v work ∷ row11 ts i v wit ∷ [])
+refusal ts i v work wit = firstThat (λ (r : Row). r .holds) (row8 ts i v ∷ row9 ts i v ∷ row10 ts i v work ∷ row11 ts i v wit ∷ [])
 
 abbrev pub unlessRefused : Option Row → Verdict → Verdict
 unlessRefused none x = x
@@ -55,7 +52,7 @@ unlessRefused (some r) x = refused (r .number) (r .place)
 -- vertex v of task i with budget b
 unfoldable pub judged : Table → ℕ → ℕ → ℕ → ℕ → ℕ → Verdict
 unfolding refusal walked
-judged ts i v b work wit = unlessRefused (refusal ts i v work wit) (walkedAt ts i v b)
+judged ts i v b work wit = unlessRefused (refusal ts i v work wit) (walked b (higher ts i) (ownE ts i v) (deadline ts i v))
 
 -- ---- from the text: a readable table goes on, anything else returns at once
 
@@ -66,7 +63,3 @@ onReading (unreadable k n) f = refused k n
 -- text, task, vertex, budget, work cells, witness cells
 abbrev pub answer : List ℕ → ℕ → ℕ → ℕ → ℕ → ℕ → Verdict
 answer text i v b work wit = onReading (read text) (λ (ts : Table). judged ts i v b work wit)
-
-abbrev pub needOf : Reading → ℕ → ℕ → ℕ
-needOf (readable ts) i v = workNeed ts i v
-needOf (unreadable k n) i v = 0

@@ -11,5 +11,6 @@ pub mod Judge
 pub mod Whole
 pub mod Desk
 pub mod Sound
+pub mod Texts
 pub mod Demands
 pub mod Bench

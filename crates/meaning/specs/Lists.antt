@@ -1,4 +1,4 @@
--- The words on lists that the definitions share. Assumes nothing.
+-- The words on lists that the definitions share.
 use Prim.Native.Nat.{ℕ, zero, suc, _+_, _*_, max}
 use mathlib.Core.Bool.{Bool, true, false, _&&_}
 use mathlib.Core.Option.{Option, none, some}

@@ -1,4 +1,4 @@
--- Paths and their load. Assumes nothing.
+-- Paths and their load.
 use Prim.Native.Nat.{ℕ, zero, suc, _+_, _-_, _<_}
 use mathlib.Core.Path.{_≡_}
 use mathlib.Core.Logic.{_⊎_}
@@ -23,10 +23,6 @@ outOf k v = those (λ (x : Edge). eqb (x .from) v) (k .edges)
 abbrev pub between : Task → ℕ → ℕ → List Edge
 between k u v = those (λ (x : Edge). eqb (x .to) v) (outOf k u)
 
-abbrev pub someEdge : List Edge → Bool
-someEdge [] = false
-someEdge (x ∷ xs) = true
-
 abbrev pub firstP : List Edge → ℕ
 firstP [] = 0
 firstP (x ∷ xs) = x .p
@@ -40,7 +36,7 @@ separation k u v = firstP (between k u v)
 -- each next one by an edge, after u
 abbrev pub linked : Task → ℕ → Path → Bool
 linked k u [] = true
-linked k u (v ∷ w) = someEdge (between k u v) && linked k v w
+linked k u (v ∷ w) = ltb 0 (length (between k u v)) && linked k v w
 
 -- at least one vertex, of the task, each next one by an edge
 abbrev pub legal : Task → Path → Bool

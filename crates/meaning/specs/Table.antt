@@ -1,4 +1,4 @@
--- What the tool judges: a table of tasks in priority order, task 0 highest; times in ticks. Assumes nothing.
+-- What the tool judges: a table of tasks in priority order, task 0 highest; times in ticks.
 use Prim.Native.Nat.{ℕ}
 use mathlib.Core.List.{List, []}
 use lib.ListN.{getD, take}

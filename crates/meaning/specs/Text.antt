@@ -1,5 +1,4 @@
 -- Frames on paper, and the refusal sheet's rows 1 to 7: from the bytes of a text to its table, or to the number and the line of its refusal.
--- Assumes nothing.
 use Prim.Native.Nat.{ℕ, zero, suc, _+_, _-_, _*_}
 use mathlib.Core.Bool.{Bool, true, false, _&&_, _||_}
 use mathlib.Core.Option.{Option, none, some}
@@ -47,13 +46,8 @@ hexBytes [] = some []
 hexBytes (h ∷ []) = none
 hexBytes (h ∷ l ∷ ds) = byteWith (digitOf h) (digitOf l) (hexBytes ds)
 
-abbrev pub nonEmpty : Option (List ℕ) → Option (List ℕ)
-nonEmpty none = none
-nonEmpty (some []) = none
-nonEmpty (some (b ∷ bs)) = some (b ∷ bs)
-
 abbrev pub frameOf : Line → Option (List ℕ)
-frameOf l = pick (l .fed) (nonEmpty (hexBytes (l .bytes))) none
+frameOf l = pick (l .fed && ltb 1 (length (l .bytes))) (hexBytes (l .bytes)) none
 
 -- a frame of kind k that is n bytes long
 abbrev pub isFrame : ℕ → ℕ → List ℕ → Bool
@@ -121,31 +115,19 @@ edgeFrame s from to p =
     (gate (afterLast (s .edges) (edge from to p)) 5
     (on (begun (s .tasks) (task (s .vertices) (s .edges ++ (edge from to p ∷ []))) 0 (s .wantE - 1)))))
 
--- a task frame is followed by its vertices, then its edges; then another task or the end
-pub data Wanted : Type 0 where
-  aVertex anEdge aTask : Wanted
-
-abbrev pub wantedBy : ℕ → ℕ → Wanted
-wantedBy (suc v) e = aVertex
-wantedBy zero (suc e) = anEdge
-wantedBy zero zero = aTask
-
-abbrev pub framed : Begun → Wanted → List ℕ → Step
-framed s aVertex f = pick (isFrame 2 5 f) (vertexFrame s (word f 1) (word f 3)) (wrong 2)
-framed s anEdge f = pick (isFrame 3 5 f) (edgeFrame s (getD f 1 0) (getD f 2 0) (word f 3)) (wrong 2)
-framed s aTask f =
+-- a task frame is followed by its vertices, then its edges; then another task or the end: by how many vertices and edges are still wanted
+abbrev pub framed : Begun → ℕ → ℕ → List ℕ → Step
+framed s (suc v) e f = pick (isFrame 2 5 f) (vertexFrame s (word f 1) (word f 3)) (wrong 2)
+framed s zero (suc e) f = pick (isFrame 3 5 f) (edgeFrame s (getD f 1 0) (getD f 2 0) (word f 3)) (wrong 2)
+framed s zero zero f =
     pick (isFrame 1 3 f && ltb (length (closed s)) mostTasks) (taskFrame s (getD f 1 0) (getD f 2 0))
     (pick (isFrame 0 1 f && ltb 0 (length (closed s))) (over (closed s)) (wrong 2))
 
 abbrev pub stepAt : Begun → Option (List ℕ) → Step
 stepAt s none = wrong 1
-stepAt s (some f) = framed s (wantedBy (s .wantV) (s .wantE)) f
+stepAt s (some f) = framed s (s .wantV) (s .wantE) f
 
 -- ---- the whole text: the first faulty line decides
-
--- a whole task has at most so many lines: its own, its vertices' and its edges'
-abbrev pub mostLines : ℕ
-mostLines = 1 + mostVertices + mostEdges
 
 pub data Reading : Type 0 where
   readable : Table → Reading
@@ -169,8 +151,16 @@ readFrom s n (l ∷ ls) =
 unfoldable pub read : List ℕ → Reading
 read text = readFrom nothing 1 (linesOf text)
 
--- ---- the C host's text check: number and line packed in one number, both 0 for a readable text
+-- the table that a text means, without a task where it is refused
+abbrev pub tasksOf : Reading → Table
+tasksOf (readable ts) = ts
+tasksOf (unreadable k n) = []
 
+-- "refusal number and line, both 0 for a readable text"
+abbrev pub checked : Reading → List ℕ
+checked (readable ts) = 0 ∷ 0 ∷ []
+checked (unreadable k n) = k ∷ n ∷ []
+
+-- and packed in one number
 abbrev pub packed : Reading → ℕ
-packed (readable ts) = 0
-packed (unreadable k n) = k * 65536 + n
+packed r = getD (checked r) 0 0 * 65536 + getD (checked r) 1 0

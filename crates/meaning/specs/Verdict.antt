@@ -1,11 +1,11 @@
--- The verdict on a vertex under the tasks of higher priority, with a budget. Assumes nothing.
+-- The verdict on a vertex under the tasks of higher priority, with a budget.
 use Prim.Native.Nat.{ℕ}
 use mathlib.Core.Option.{Option, none, some}
 use mathlib.Core.List.{List, [], _∷_, map}
-use lib.ListN.{length}
+use lib.ListN.{length, getD}
 use lib.Dec.{ltb}
 use Rattle.meaning.specs.Lists.{pick, gather}
-use Rattle.meaning.specs.Table.{Task, Table, vertexAt, taskAt, higher}
+use Rattle.meaning.specs.Table.{Task, Table, vertexAt, taskAt}
 use Rattle.meaning.specs.Paths.{Path, load, pathsOf}
 use Rattle.meaning.specs.Groups.{count, witness}
 
@@ -16,13 +16,9 @@ pub data Verdict : Type 0 where
   unfinished : ℕ → Verdict
   refused : ℕ → ℕ → Verdict
 
--- the path's length and vertices
-abbrev pub pathCell : Path → List ℕ
-pathCell w = length w ∷ w
-
 -- per higher task in order, the path's length and vertices
 abbrev pub cellsOf : List Path → List ℕ
-cellsOf ws = gather pathCell ws
+cellsOf ws = gather (λ (w : Path). length w ∷ w) ws
 
 -- a verdict in numbers: the desk's 0 to 3, then its values; a miss counts the cells written
 abbrev pub numbers : Verdict → List ℕ
@@ -30,6 +26,17 @@ numbers (meets c) = 0 ∷ c ∷ []
 numbers (misses c ws) = 1 ∷ c ∷ length (cellsOf ws) ∷ []
 numbers (unfinished b) = 2 ∷ b ∷ []
 numbers (refused k place) = 3 ∷ k ∷ place ∷ []
+
+-- the desk's number: 0 meets, 1 misses, 2 unfinished, 3 refused
+abbrev pub kindOf : Verdict → ℕ
+kindOf x = getD (numbers x) 0 0
+
+-- the paths that cause a miss; none with any other verdict
+abbrev pub missPaths : Verdict → List Path
+missPaths (meets c) = []
+missPaths (misses c ws) = ws
+missPaths (unfinished b) = []
+missPaths (refused k place) = []
 
 -- ---- the walk of a vertex
 
@@ -55,14 +62,10 @@ abbrev pub decided : ℕ → Option (List Listed) → Verdict
 decided c none = meets c
 decided c (some w) = misses c (pathsIn w)
 
--- unfinished exactly if the budget b is below C
-abbrev pub budgeted : ℕ → ℕ → Option (List Listed) → Verdict
-budgeted b c w = pick (ltb b c) (unfinished b) (decided c w)
-
--- a job of e ticks and deadline d under the tasks ks
+-- a job of e ticks and deadline d under the tasks ks, with budget b: unfinished exactly if it is below C
 unfoldable pub walked : ℕ → List Task → ℕ → ℕ → Verdict
 unfolding load pathsOf count witness
-walked b ks e d = budgeted b (count loadOf e d (topOf ks d)) (witness loadOf e d (topOf ks d))
+walked b ks e d = let c = count loadOf e d (topOf ks d) in pick (ltb b c) (unfinished b) (decided c (witness loadOf e d (topOf ks d)))
 
 -- ---- a vertex of a table
 
@@ -72,7 +75,3 @@ ownE ts i v = vertexAt (taskAt ts i) v .e
 
 abbrev pub deadline : Table → ℕ → ℕ → ℕ
 deadline ts i v = vertexAt (taskAt ts i) v .d
-
--- vertex v of task i
-abbrev pub walkedAt : Table → ℕ → ℕ → ℕ → Verdict
-walkedAt ts i v b = walked b (higher ts i) (ownE ts i v) (deadline ts i v)

@@ -1,15 +1,14 @@
--- Judging a whole table. Assumes nothing.
+-- Judging a whole table.
 use Prim.Native.Nat.{ℕ, suc}
 use mathlib.Core.List.{List, [], _∷_, _++_, map}
-use lib.ListN.{length, getD}
+use lib.ListN.{length}
 use lib.Dec.{eqb}
 use Rattle.meaning.specs.Lists.{those, below, largest}
 use Rattle.meaning.specs.Table.{Task, Table}
 use Rattle.meaning.specs.Text.{Reading, readable, unreadable}
-use Rattle.meaning.specs.Paths.{pathsOf}
-use Rattle.meaning.specs.Verdict.{Verdict, meets, misses, unfinished, refused, numbers, walked, walkedAt}
-use Rattle.meaning.specs.Areas.{workNeed, zeroed}
-use Rattle.meaning.specs.Judge.{row9, row10, firstRow, unlessRefused}
+use Rattle.meaning.specs.Verdict.{Verdict, kindOf}
+use Rattle.meaning.specs.Areas.{workNeed, witnessNeed, zeroed, needUnless}
+use Rattle.meaning.specs.Judge.{judged}
 
 -- ---- the vertices of a table, in rising order of task and then vertex
 
@@ -24,25 +23,20 @@ placesFrom i (k ∷ ks) = map (λ (v : ℕ). record { task = i; vertex = v }) (b
 abbrev pub places : Table → List Place
 places ts = placesFrom 0 ts
 
--- ---- one budget, given afresh to each vertex; no witness area, so of the sheet only 9 and 10
+-- ---- one budget, given afresh to each vertex
 
-unfoldable pub verdictAt : Table → ℕ → ℕ → Place → Verdict
-unfolding pathsOf walked
-verdictAt ts b work q =
-    unlessRefused (firstRow (row9 ts (q .task) (q .vertex) ∷ row10 ts (q .task) (q .vertex) work ∷ []))
-    (walkedAt ts (q .task) (q .vertex) b)
+-- "It takes no witness area": each vertex is judged as with one that is long enough, so of the sheet only 9 and 10 are left
+abbrev pub verdictAt : Table → ℕ → ℕ → Place → Verdict
+verdictAt ts b work q = judged ts (q .task) (q .vertex) b work (witnessNeed ts (q .task) (q .vertex))
 
 abbrev pub verdicts : Table → ℕ → ℕ → List Verdict
 verdicts ts b work = map (verdictAt ts b work) (places ts)
 
 -- ---- how many meet, miss, are unfinished and are refused
 
--- the desk's number: 0 meets, 1 misses, 2 unfinished, 3 refused
-abbrev pub kindOf : Verdict → ℕ
-kindOf x = getD (numbers x) 0 0
-
-abbrev pub ofKind : ℕ → List Verdict → List Verdict
-ofKind n xs = those (λ (x : Verdict). eqb (kindOf x) n) xs
+-- so many are of this kind
+abbrev pub ofKind : ℕ → List Verdict → ℕ
+ofKind n xs = length (those (λ (x : Verdict). eqb (kindOf x) n) xs)
 
 pub record Counts : Type 0 where
   pub meeting : ℕ
@@ -51,13 +45,7 @@ pub record Counts : Type 0 where
   pub refusing : ℕ
 
 abbrev pub countsOf : List Verdict → Counts
-countsOf xs =
-    record {
-      meeting = length (ofKind 0 xs);
-      missing = length (ofKind 1 xs);
-      unfinishing = length (ofKind 2 xs);
-      refusing = length (ofKind 3 xs);
-    }
+countsOf xs = record { meeting = ofKind 0 xs; missing = ofKind 1 xs; unfinishing = ofKind 2 xs; refusing = ofKind 3 xs }
 
 -- ---- the answer for a text, and the work area afterwards
 
@@ -68,12 +56,6 @@ pub data TableAnswer : Type 0 where
 abbrev pub tableAnswer : Reading → ℕ → ℕ → TableAnswer
 tableAnswer (readable ts) b work = counted (countsOf (verdicts ts b work))
 tableAnswer (unreadable k n) b work = uncounted k n
-
-abbrev pub needUnless : Verdict → ℕ → ℕ
-needUnless (meets c) need = need
-needUnless (misses c ws) need = need
-needUnless (unfinished b) need = need
-needUnless (refused k place) need = 0
 
 -- the largest need among vertices not refused
 abbrev pub tableNeed : Table → ℕ → ℕ → ℕ

@@ -1,4 +1,4 @@
--- The overload test on rows, cell by cell and tick by tick. Assumes nothing.
+-- The overload test on rows, cell by cell and tick by tick.
 use mathlib.Core.Path.{_≡_, refl, sym, ap, ap₂, _∙_}
 use Prim.Native.Nat.{ℕ, zero, suc, _+_, _-_, _*_, _≤_, _<_}
 use native.Mathlib.Nat.{add-zero}

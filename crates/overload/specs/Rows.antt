@@ -1,4 +1,4 @@
--- Rows of numbers in the work area, one of each higher task, and the overload test on them. Assumes nothing.
+-- Rows of numbers in the work area, one of each higher task, and the overload test on them.
 use mathlib.Core.Path.{_≡_}
 use Prim.Native.Nat.{ℕ, suc, _+_, _-_, _*_, _≤_, _<_}
 use mathlib.Core.Bool.{Bool}

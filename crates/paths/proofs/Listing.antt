@@ -1,4 +1,4 @@
--- What is counted, found and put over a task's columns is what the definitions say of the task. Assumes nothing.
+-- What is counted, found and put over a task's columns is what the definitions say of the task.
 use mathlib.Core.Path.{_≡_, refl, sym, ap, subst, _∙_}
 use Prim.Native.Nat.{ℕ, _≤_, min}
 use native.Mathlib.Omega.{arith}
@@ -8,7 +8,7 @@ use Rattle.meaning.specs.Bounds.{mostVertices}
 use Rattle.meaning.specs.Table as Meant
 use Rattle.meaning.specs.Paths.{completePaths, pathsOf}
 use Rattle.table.specs.declared.Task.{Task}
-use Rattle.table.specs.Record.{taskOf, HeldTask}
+use Rattle.table.specs.Inner.{taskOf, HeldTask}
 use Rattle.columns.specs.Columns.{ColumnsOf}
 use Rattle.lister.specs.declared.Path.{Path}
 use Rattle.ways.specs.Ways.{allWays, pathBy}

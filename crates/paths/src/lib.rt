@@ -6,6 +6,7 @@
 use columns::columns_of;
 use kinds::Ticks;
 use lister::Path;
+use lister::PathNumber;
 use lister::count::count_all;
 use lister::place::path_all;
 use loads::rows_all;
@@ -16,7 +17,7 @@ ghost use mathlib.Core.List.{List, map};
 ghost use lib.ListN.{length, getD};
 ghost use Rattle.meaning.specs.Bounds.{largestD};
 ghost use Rattle.meaning.specs.Paths.{pathsOf};
-ghost use Rattle.table.specs.Record.{taskOf, HeldTask};
+ghost use Rattle.table.specs.Inner.{taskOf, HeldTask};
 ghost use Rattle.ways.specs.Ways.{mostCounted};
 ghost use Rattle.lister.specs.Place.{pathRecord};
 ghost use Rattle.loads.specs.Rows.{Room, putRows};
@@ -32,7 +33,7 @@ pub fn path_count(t: Task, d: Ticks, cap: usize) -> usize
     let start = c.start;
     let to = c.to;
     let p = c.p;
-    count_all(&start, &to, &p, t.nv, d.0 as usize, cap)
+    count_all(&start, &to, &p, t.nv, d, cap)
 }
 
 // The complete path of place i; of length 0, with zeros alone, where there is none.
@@ -45,7 +46,7 @@ pub fn path_at(t: Task, d: Ticks, i: usize) -> Path
     let start = c.start;
     let to = c.to;
     let p = c.p;
-    path_all(&start, &to, &p, t.nv, d.0 as usize, i)
+    path_all(&start, &to, &p, t.nv, d, PathNumber(i))
 }
 
 // The loads of the path of place i at t from 1 to d are row 2i of the part, each row of d cells; the rows between are unchanged.
@@ -60,5 +61,5 @@ pub fn path_rows(part: &mut [u32], t: Task, d: Ticks)
     let start = c.start;
     let to = c.to;
     let p = c.p;
-    rows_all(part, d.0 as usize, &e, &start, &to, &p, t.nv);
+    rows_all(part, d, &e, &start, &to, &p, t.nv);
 }

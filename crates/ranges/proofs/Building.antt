@@ -1,4 +1,4 @@
--- The build of a range's rows from those of its parts. Assumes nothing.
+-- The build of a range's rows from those of its parts.
 use mathlib.Core.Path.{_≡_, refl, sym, ap, ap₂, _∙_}
 use Prim.Native.Nat.{ℕ, zero, suc, _+_, _-_, _*_, _≤_, _<_}
 use native.Mathlib.Nat.{add-mul, one-mul, zero-mul, suc-mul, mul-assoc, mul-comm}

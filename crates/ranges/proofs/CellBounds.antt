@@ -1,4 +1,4 @@
--- How many cells a task's stretch has, and how large they are. Assumes nothing.
+-- How many cells a task's stretch has, and how large they are.
 use mathlib.Core.Path.{_≡_, _∙_}
 use Prim.Native.Nat.{ℕ, zero, suc, _+_, _*_, _≤_, _<_, zero-le}
 use native.Mathlib.Nat.{le-trans, mul-le-mul-right}

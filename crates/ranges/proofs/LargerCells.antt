@@ -1,4 +1,4 @@
--- The larger of two rows, cell by cell. Assumes nothing.
+-- The larger of two rows, cell by cell.
 use mathlib.Core.Path.{_≡_, refl, sym, ap, ap₂, _∙_}
 use Prim.Native.Nat.{ℕ, zero, suc, _+_, _≤_, _<_, max}
 use native.Mathlib.Omega.{arith}

@@ -1,4 +1,4 @@
--- Where the row of each range lies in the stretch, and what it holds. Assumes nothing.
+-- Where the row of each range lies in the stretch, and what it holds.
 use mathlib.Core.Path.{_≡_, refl, sym, ap, ap₂, _∙_}
 use Prim.Native.Nat.{ℕ, zero, suc, _+_, _-_, _*_, _≤_, _<_}
 use native.Mathlib.Nat.{add-mul, one-mul, mul-le-mul-right}

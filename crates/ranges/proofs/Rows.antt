@@ -1,4 +1,4 @@
--- The rows of a range and its parts, in order. Assumes nothing.
+-- The rows of a range and its parts, in order.
 use mathlib.Core.Path.{_≡_, refl, sym, ap, ap₂, _∙_}
 use Prim.Native.Nat.{ℕ, zero, suc, _+_, _-_, _*_, _≤_, _<_}
 use native.Mathlib.Nat.{add-mul, one-mul, zero-mul, le-trans, mul-le-mul-right, suc-mul}

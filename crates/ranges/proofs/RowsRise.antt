@@ -1,4 +1,4 @@
--- The row of a range never falls from one tick to the next: loads never fall as t grows. Assumes nothing.
+-- The row of a range never falls from one tick to the next: loads never fall as t grows.
 use mathlib.Core.Path.{_≡_, sym, ap, _∙_}
 use Prim.Native.Nat.{ℕ, suc, _+_, _-_, _*_, _≤_, _<_}
 use native.Mathlib.Omega.{arith}

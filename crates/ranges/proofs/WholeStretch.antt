@@ -1,4 +1,4 @@
--- A task's whole stretch: the rows of the single paths put, and the rest built, are every range's loads. Assumes nothing.
+-- A task's whole stretch: the rows of the single paths put, and the rest built, are every range's loads.
 use mathlib.Core.Path.{_≡_, refl, ap, ap₂, subst, _∙_}
 use Prim.Native.Nat.{ℕ, zero, suc, _+_, _-_, _*_, _≤_, _<_, max}
 use native.Mathlib.Nat.{zero-mul, add-mul, one-mul}

@@ -1,4 +1,4 @@
--- A task's stretch of the work area: the rows of its ranges, in order. Assumes nothing.
+-- A task's stretch of the work area: the rows of its ranges, in order.
 use Prim.Native.Nat.{ℕ, zero, suc, _*_, max}
 use mathlib.Core.Bool.{Bool, true, false}
 use mathlib.Core.List.{List, [], _∷_, _++_, map}

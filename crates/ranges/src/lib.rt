@@ -14,7 +14,7 @@ ghost use lib.ListN.{length, take, drop};
 ghost use lib.Seq.{sets};
 ghost use Rattle.meaning.specs.Bounds.{largestD};
 ghost use Rattle.meaning.specs.Paths.{pathsOf};
-ghost use Rattle.table.specs.Record.{taskOf, HeldTask};
+ghost use Rattle.table.specs.Inner.{taskOf, HeldTask};
 ghost use Rattle.ways.specs.Ways.{mostCounted};
 ghost use Rattle.ranges.specs.Stretch.{largerCells, stretchCells, built, stretchOf};
 

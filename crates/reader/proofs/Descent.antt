@@ -1,14 +1,18 @@
--- The way of the reader through a text, task by task. Assumes nothing.
+-- The way of the reader through a text, task by task.
 use Prim.Native.Nat.{ℕ, zero, suc, _+_, _*_}
 use mathlib.Core.List.{List}
 use lib.ListN.{length, drop, set}
 use lib.Dec.{eqb}
 use Rattle.meaning.specs.Lists.{pick}
 use Rattle.meaning.specs.Bounds.{mostTasks}
+use Rattle.meaning.specs.Text as Meant
+use Rattle.meaning.specs.Text.{readable, unreadable}
 use Rattle.kinds.specs.declared.Refusal.the-variants.{WrongFrame, BytesAfterEnd}
+use Rattle.kinds.proofs.Numbers.{refusalOf}
 use Rattle.table.specs.declared.Task.{Task}
 use Rattle.table.specs.declared.Table.{Table}
-use Rattle.table.specs.Record.{noTable}
+use Rattle.table.specs.Record.{tableRecord}
+use Rattle.table.specs.Inner.{noTable}
 use Rattle.lines.specs.declared.Outcome.{Outcome}
 use Rattle.lines.specs.declared.Outcome.the-variants.{AllTaken, StoppedBy}
 use Rattle.frames.specs.declared.TaskOrEndLine.{TaskOrEndLine}
@@ -17,7 +21,7 @@ use Rattle.frames.specs.Frames.{taskBytes, partBytes, endBytes, taskOrEndLine}
 use Rattle.lines.specs.Parts.{taskLines}
 use Rattle.reader.specs.declared.Status.the-variants.{Readable}
 use Rattle.reader.specs.declared.Reading.{Reading}
-use Rattle.reader.specs.Record.{refusedRecord}
+use Rattle.reader.specs.Inner.{refusedRecord}
 
 abbrev pub putTask : Table → Task → Table
 putTask t k = record { n = t .n + 1; tasks = set (t .tasks) (t .n) k }
@@ -44,3 +48,8 @@ tasksOn (suc g) t line s =
 
 abbrev pub wholeText : List ℕ → Reading
 wholeText s = tasksOn mostTasks noTable 1 s
+
+-- the record of what a text means
+abbrev pub readingRecord : Meant.Reading → Reading
+readingRecord (readable ts) = record { status = Readable; table = tableRecord ts }
+readingRecord (unreadable k n) = refusedRecord (refusalOf k) n

@@ -1,23 +1,44 @@
--- What a caller learns of a text from its reading: the table that a readable one means, the refusal of the others. Assumes nothing.
-use mathlib.Core.Path.{_≡_, refl, sym, ap, subst, _∙_}
-use Prim.Native.Nat.{ℕ, zero, suc, _≤_}
+-- What a caller learns of a text from its reading: the table that a readable one means, the refusal of the others.
+use mathlib.Core.Path.{_≡_, refl, sym, ap, ap₂, subst, _∙_}
+use Prim.Native.Nat.{ℕ}
 use native.Mathlib.Omega.{arith}
-use mathlib.Core.List.{List}
+use mathlib.Core.List.{List, [], _∷_}
+use lib.ListN.{getD}
 use Rattle.meaning.specs.Table as Meant
 use Rattle.meaning.specs.Text as Text
-use Rattle.meaning.specs.Text.{readable, unreadable, read}
+use Rattle.meaning.specs.Text.{readable, unreadable, read, checked}
 use Rattle.meaning.specs.Sound.{SoundTable}
-use Rattle.meaning.specs.Demands.{TextRefused}
+use Rattle.meaning.proofs.Readable.{InText}
 use Rattle.meaning.proofs.Demands.{readable-sound, text-refused}
+use Rattle.kinds.specs.declared.Refusal.{Refusal}
 use Rattle.kinds.specs.declared.RefusedAt.{RefusedAt}
-use Rattle.kinds.specs.Numbers.{refusalNumber, refusalOf}
+use Rattle.kinds.specs.Numbers.{refusalNumber}
+use Rattle.kinds.proofs.Numbers.{number-of-refusal, number-some, same-refusal}
 use Rattle.table.specs.declared.Table.{Table}
-use Rattle.table.specs.Record.{noTable, tableRecord, tableOf}
+use Rattle.table.specs.Record.{tableRecord}
+use Rattle.table.specs.Inner.{tableOf}
 use Rattle.table.proofs.Record.{table-of-record}
 use Rattle.reader.specs.declared.Status.{Status}
 use Rattle.reader.specs.declared.Status.the-variants.{Readable, Refused}
 use Rattle.reader.specs.declared.Reading.{Reading}
-use Rattle.reader.specs.Record.{readingRecord}
+use Rattle.reader.specs.Record.{statusNumbers, Reads}
+use Rattle.reader.specs.Settled.{ReadSettled}
+use Rattle.reader.proofs.Descent.{readingRecord}
+use Rattle.reader.proofs.Whole.{no-tasks}
+
+-- the record of what a text means is what a reading promises
+pub reading-reads : (text : List ℕ) (r : Reading) → r ≡ readingRecord (read text) → Reads text r
+reading-reads text r e = record { status = rw e (status-is (read text) refl); table = rw e (table-is (read text)) }
+  where
+    status-is : (m : Text.Reading) → read text ≡ m → statusNumbers (readingRecord m .status) ≡ checked m
+    status-is (readable ts) q = refl
+    status-is (unreadable k n) q = let b = text-refused text k n q in ap (λ (i : ℕ). i ∷ n ∷ []) (number-of-refusal k (b .0) (b .1))
+
+    table-is : (m : Text.Reading) → readingRecord m .table ≡ tableRecord (Text.tasksOf m)
+    table-is (readable ts) = refl
+    table-is (unreadable k n) = sym no-tasks
+
+-- ---- what a caller learns
 
 -- t is the record of the table that the text means
 pub record TableRead (text : List ℕ) (t : Table) : Type 0 where
@@ -28,19 +49,7 @@ pub record TableRead (text : List ℕ) (t : Table) : Type 0 where
 -- the text is refused by this row at this line
 pub record LineRefused (text : List ℕ) (at : RefusedAt) : Type 0 where
   pub means : read text ≡ unreadable (refusalNumber (at .refusal)) (at .place)
-  pub bounds : TextRefused (refusalNumber (at .refusal)) (at .place)
-
--- the rows 1 to 7
-number-of-refusal : (k : ℕ) → 1 ≤ k → k ≤ 7 → refusalNumber (refusalOf k) ≡ k
-number-of-refusal zero l h = absurd (omega arith)
-number-of-refusal (suc zero) l h = refl
-number-of-refusal (suc (suc zero)) l h = refl
-number-of-refusal (suc (suc (suc zero))) l h = refl
-number-of-refusal (suc (suc (suc (suc zero)))) l h = refl
-number-of-refusal (suc (suc (suc (suc (suc zero))))) l h = refl
-number-of-refusal (suc (suc (suc (suc (suc (suc zero)))))) l h = refl
-number-of-refusal (suc (suc (suc (suc (suc (suc (suc zero))))))) l h = refl
-number-of-refusal (suc (suc (suc (suc (suc (suc (suc (suc k)))))))) l h = absurd (omega arith)
+  pub bounds : InText (refusalNumber (at .refusal)) (at .place)
 
 module _ (text : List ℕ) where
   of-table : (ts : Meant.Table) → read text ≡ readable ts → TableRead text (tableRecord ts)
@@ -48,31 +57,42 @@ module _ (text : List ℕ) where
       let t : tableOf (tableRecord ts) ≡ ts = table-of-record ts in
       record { means = e ∙ ap readable (sym t); is = ap tableRecord (sym t); sound = subst SoundTable (sym t) (readable-sound text ts e) }
 
-  of-refusal : (k n : ℕ) → read text ≡ unreadable k n → LineRefused text (record { refusal = refusalOf k; place = n })
-  of-refusal k n e =
-      let b : TextRefused k n = text-refused text k n e in
-      let o : refusalNumber (refusalOf k) ≡ k = number-of-refusal k (b .low) (b .high) in
-      record { means = e ∙ ap (λ (m : ℕ). unreadable m n) (sym o); bounds = subst (λ (m : ℕ). TextRefused m n) (sym o) b }
+  number-is : {a b : List ℕ} → a ≡ b → getD a 0 0 ≡ getD b 0 0
+  number-is q = ap (λ (ns : List ℕ). getD ns 0 0) q
 
-  -- what a status says, with the table beside it
-  abbrev Says : Status → Table → Type 0
-  Says Readable t = TableRead text t
-  Says (Refused at) t = LineRefused text at × (t ≡ noTable)
-
-  says : (m : Text.Reading) → read text ≡ m → Says (readingRecord m .status) (readingRecord m .table)
-  says (readable ts) e = of-table ts e
-  says (unreadable k n) e = (of-refusal k n e, refl)
-
-  module _ (r : Reading) (e : r ≡ readingRecord (read text)) where
-    reading-says : Says (r .status) (r .table)
-    reading-says = rw e (says (read text) refl)
+  module _ (r : Reading) (e : Reads text r) where
+    status-says : {s : Status} {m : Text.Reading} → r .status ≡ s → read text ≡ m → statusNumbers s ≡ checked m
+    status-says p q = ap statusNumbers (sym p) ∙ e .status ∙ ap checked q
 
     pub table-read : r .status ≡ Readable → TableRead text (r .table)
-    table-read q = subst (λ (s : Status). Says s (r .table)) q reading-says
+    table-read p = go (read text) refl
+      where
+        go : (m : Text.Reading) → read text ≡ m → TableRead text (r .table)
+        go (readable ts) q = rw (e .table ∙ ap (λ (m : Text.Reading). tableRecord (Text.tasksOf m)) q) (of-table ts q)
+        go (unreadable k n) q = absurd (omega (arith, number-is (status-says p q), text-refused text k n q .0))
 
     pub line-refused : {at : RefusedAt} → r .status ≡ Refused at → LineRefused text at
-    line-refused q = subst (λ (s : Status). Says s (r .table)) q reading-says .0
+    line-refused {at} p = go (read text) refl
+      where
+        go : (m : Text.Reading) → read text ≡ m → LineRefused text at
+        go (readable ts) q = absurd (omega (arith, number-is (status-says p q), number-some (at .refusal)))
+        go (unreadable k n) q =
+            let s : refusalNumber (at .refusal) ∷ at .place ∷ [] ≡ k ∷ n ∷ [] = status-says p q in
+            let a : k ≡ refusalNumber (at .refusal) = cc in
+            let b : n ≡ at .place = cc in
+            let means = q ∙ ap₂ unreadable a b in
+            record { means = means; bounds = text-refused text (refusalNumber (at .refusal)) (at .place) means }
 
--- two results that satisfy the statement of `read` coincide, in the status and in every cell of the table
-pub reading-settled : (text : List ℕ) (r s : Reading) → r ≡ readingRecord (read text) → s ≡ readingRecord (read text) → r ≡ s
-reading-settled text r s p q = p ∙ sym q
+-- ---- only one
+
+same-status : (s t : Status) → statusNumbers s ≡ statusNumbers t → s ≡ t
+same-status Readable Readable q = refl
+same-status Readable (Refused at) q = absurd (let k : 0 ≡ refusalNumber (at .refusal) = cc in omega (arith, number-some (at .refusal)))
+same-status (Refused at) Readable q = absurd (let k : refusalNumber (at .refusal) ≡ 0 = cc in omega (arith, number-some (at .refusal)))
+same-status (Refused a) (Refused b) q =
+    ap₂ (λ (w : Refusal) (n : ℕ). Refused (record { refusal = w; place = n })) (same-refusal (a .refusal) (b .refusal) cc) cc
+
+pub read-settled : ReadSettled
+read-settled text r s p q =
+    ap₂ (λ (x : Status) (t : Table). record { status = x; table = t }) (same-status (r .status) (s .status) (p .status ∙ sym (q .status)))
+    (p .table ∙ sym (q .table))

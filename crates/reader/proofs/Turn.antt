@@ -1,4 +1,4 @@
--- One turn of the loop over a text's tasks. Assumes nothing.
+-- One turn of the loop over a text's tasks.
 use mathlib.Core.Path.{_≡_, refl, sym, ap, _∙_}
 use Prim.Native.Nat.{ℕ, zero, suc, _+_, _-_, _*_, _≤_, _<_}
 use native.Mathlib.Omega.{arith}
@@ -7,11 +7,12 @@ use lib.ListN.{length, drop, length-drop}
 use lib.Seq.{drop-drop}
 use borrow.Author.Tests.{eq-eqb, ne-eqb}
 use Rattle.meaning.specs.Bounds.{mostTasks, mostVertices, mostEdges}
-use Rattle.meaning.specs.Text.{mostLines, read}
+use Rattle.meaning.specs.Text.{read}
+use Rattle.meaning.specs.Texts.{mostLines}
 use Rattle.kinds.specs.declared.Refusal.{Refusal}
 use Rattle.kinds.specs.declared.Refusal.the-variants.{WrongFrame, BytesAfterEnd}
 use Rattle.table.specs.declared.Table.{Table}
-use Rattle.table.specs.Record.{noTable}
+use Rattle.table.specs.Inner.{noTable}
 use Rattle.frames.specs.declared.TaskOrEndLine.{TaskOrEndLine}
 use Rattle.frames.specs.declared.TaskOrEndLine.the-variants.{TaskTaken, EndTaken, FrameRefused}
 use Rattle.lines.specs.declared.Outcome.the-variants.{AllTaken, StoppedBy}
@@ -24,8 +25,8 @@ use Rattle.lines.proofs.Reach.{Reach}
 use Rattle.lines.proofs.Turns.{lent, lent-drop}
 use Rattle.reader.specs.declared.Status.the-variants.{Readable}
 use Rattle.reader.specs.declared.Reading.{Reading}
-use Rattle.reader.specs.Record.{refusedRecord, readingRecord}
-use Rattle.reader.proofs.Descent.{putTask, linesThen, frameThen, tasksOn}
+use Rattle.reader.specs.Inner.{refusedRecord}
+use Rattle.reader.proofs.Descent.{putTask, linesThen, frameThen, tasksOn, readingRecord}
 use Rattle.reader.proofs.Whole.{whole}
 
 -- before the line at `at`: going on from here gives the whole answer

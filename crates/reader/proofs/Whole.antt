@@ -1,4 +1,4 @@
--- The descent by task reads a text as it means. Assumes nothing.
+-- The descent by task reads a text as it means.
 use mathlib.Core.Path.{_≡_, refl, sym, ap, _∙_}
 use Prim.Native.Nat.{ℕ, zero, suc, _+_, _*_, _≤_, _<_}
 use native.Mathlib.Omega.{arith}
@@ -15,7 +15,8 @@ use Rattle.meaning.specs.Text as Text
 use Rattle.meaning.specs.Text.{Line, lineFeed, linesOf, intoFirst, begun, closed, unreadable, atEnd, readFrom, read}
 use Rattle.kinds.specs.declared.Refusal.the-variants.{WrongFrame}
 use Rattle.kinds.proofs.Numbers.{refusal-of-number}
-use Rattle.table.specs.Record.{padded, noTask, noTable, taskRecord, tableRecord}
+use Rattle.table.specs.Record.{padded, noTask, taskRecord, tableRecord}
+use Rattle.table.specs.Inner.{noTable}
 use Rattle.frames.specs.declared.TaskOrEndLine.{TaskOrEndLine}
 use Rattle.frames.specs.declared.TaskOrEndLine.the-variants.{TaskTaken, EndTaken, FrameRefused}
 use Rattle.lines.specs.declared.TaskLines.{TaskLines}
@@ -26,8 +27,8 @@ use Rattle.rules.proofs.Within.{TaskBounds}
 use Rattle.frames.proofs.TaskOrEnd.{frameGives, task-or-end-read, task-has, end-long}
 use Rattle.lines.proofs.TaskRead.{TaskGives, whole-task, task-stopped, task-run}
 use Rattle.reader.specs.declared.Reading.{Reading}
-use Rattle.reader.specs.Record.{refusedRecord, readingRecord}
-use Rattle.reader.proofs.Descent.{putTask, linesThen, frameThen, tasksOn, wholeText}
+use Rattle.reader.specs.Inner.{refusedRecord}
+use Rattle.reader.proofs.Descent.{putTask, linesThen, frameThen, tasksOn, wholeText, readingRecord}
 
 -- ---- after the end's line
 
@@ -137,7 +138,7 @@ tasks-run (suc g) ts k line t s =
     with-task g (λ a b c d h. tasks-run g a b c d h) (having ts k) line v e t s m (task ts k line t v e) (taskLines v e (drop taskBytes t))
     (task-run (having ts k) (suc line) v e (drop taskBytes t) (m .v-in) (m .e-in)))
 
-no-tasks : tableRecord [] ≡ noTable
+pub no-tasks : tableRecord [] ≡ noTable
 unfolding padded
 no-tasks = refl
 

@@ -1,1 +1,3 @@
 pub mod Record
+pub mod Settled
+pub mod Inner

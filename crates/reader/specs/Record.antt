@@ -1,17 +1,20 @@
--- The record of what a text reads as: its status, and every cell of the table beside it. Assumes nothing.
+-- What a reading of a text promises: its status in the document's numbers, and every cell of the table beside it.
+use mathlib.Core.Path.{_≡_}
 use Prim.Native.Nat.{ℕ}
-use Rattle.meaning.specs.Text as Meant
-use Rattle.meaning.specs.Text.{readable, unreadable}
-use Rattle.kinds.specs.declared.Refusal.{Refusal}
-use Rattle.kinds.specs.Numbers.{refusalOf}
-use Rattle.table.specs.Record.{noTable, tableRecord}
+use mathlib.Core.List.{List, [], _∷_}
+use Rattle.meaning.specs.Text.{read, tasksOf, checked}
+use Rattle.kinds.specs.Numbers.{refusalNumber}
+use Rattle.table.specs.Record.{tableRecord}
+use Rattle.reader.specs.declared.Status.{Status}
 use Rattle.reader.specs.declared.Status.the-variants.{Readable, Refused}
 use Rattle.reader.specs.declared.Reading.{Reading}
 
--- refused, with the empty table
-abbrev pub refusedRecord : Refusal → ℕ → Reading
-refusedRecord w n = record { status = Refused (record { refusal = w; place = n }); table = noTable }
+-- refusal number and line, both 0 for a readable text
+abbrev pub statusNumbers : Status → List ℕ
+statusNumbers Readable = 0 ∷ 0 ∷ []
+statusNumbers (Refused at) = refusalNumber (at .refusal) ∷ at .place ∷ []
 
-abbrev pub readingRecord : Meant.Reading → Reading
-readingRecord (readable ts) = record { status = Readable; table = tableRecord ts }
-readingRecord (unreadable k n) = refusedRecord (refusalOf k) n
+-- the table that the text means; beside a refusal no task
+pub record Reads (text : List ℕ) (r : Reading) : Type 0 where
+  pub status : statusNumbers (r .status) ≡ checked (read text)
+  pub table : r .table ≡ tableRecord (tasksOf (read text))

@@ -14,8 +14,9 @@ use table::Table;
 ghost use mathlib.Core.Path.{_≡_};
 ghost use Prim.Native.Nat.{_≤_};
 ghost use Rattle.meaning.specs.Text.{read, packed};
-ghost use Rattle.meaning.specs.Demands.{lastLine};
-ghost use Rattle.reader.specs.Record.{refusedRecord, readingRecord};
+ghost use Rattle.meaning.specs.Texts.{lastLine};
+ghost use Rattle.reader.specs.Record.{Reads};
+ghost use Rattle.reader.specs.Inner.{refusedRecord};
 
 pub enum Status {
     Readable,
@@ -43,7 +44,7 @@ pub(crate) fn refused(refusal: Refusal, line: usize) -> Reading
 }
 
 pub fn read(text: &[u8]) -> Reading
-    ensures { λ r. ⌜ r ≡ readingRecord (read (now (text .entry))) ⌝ }
+    ensures { λ r. ⌜ Reads (now (text .entry)) r ⌝ }
 {
     let worths = digits::worths();
     let mut table = table::no_table();

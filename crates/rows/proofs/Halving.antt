@@ -1,4 +1,4 @@
--- The halving tree of n paths: where its nodes lie, and which second halves are still to come behind a place. Assumes nothing.
+-- The halving tree of n paths: where its nodes lie, and which second halves are still to come behind a place.
 use mathlib.Core.Path.{_≡_, refl, sym, ap, _∙_}
 use Prim.Native.Nat.{ℕ, zero, suc, _+_, _-_, _≤_, _<_}
 use native.Mathlib.Nat.{eq-or-lt-of-le}

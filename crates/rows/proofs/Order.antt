@@ -1,4 +1,4 @@
--- Where a range of the splitting lies, and its row among the rows. Assumes nothing.
+-- Where a range of the splitting lies, and its row among the rows.
 use mathlib.Core.Path.{_≡_, refl, sym, ap}
 use Prim.Native.Nat.{ℕ, suc, _+_, _*_, _≤_, _<_}
 use native.Mathlib.Nat.{mul-le-mul-right, mul-le-mul, suc-mul}
@@ -46,13 +46,13 @@ top-small n = go (ltb 1 n) refl
 
 -- ---- the row of a range, in a stretch of the rows of n paths
 
-row-in : {n f m : ℕ} → Node 0 n f m → 0 < n → suc (rowOf (range f m)) ≤ rowsFor n
-row-in {n} {f} {m} x p = omega (arith, node-in x, top-in m (node-pos x p))
+row-in : (f m : ℕ) {n : ℕ} → f + m ≤ n → 0 < m → suc (rowOf (range f m)) ≤ rowsFor n
+row-in f m l p = omega (arith, top-in m p)
 
-pub row-end : (d r : ℕ) {n f m : ℕ} → Node 0 n f m → 0 < n → rowStart d r (range f m) + d ≤ r + rowsFor n * d
+pub row-end : (d r f m : ℕ) {n : ℕ} → f + m ≤ n → 0 < m → rowStart d r (range f m) + d ≤ r + rowsFor n * d
 unfolding rowStart
-row-end d r {n} {f} {m} x p =
-    let k : suc (rowOf (range f m)) * d ≤ rowsFor n * d = mul-le-mul-right d (row-in x p) in
+row-end d r f m {n} l p =
+    let k : suc (rowOf (range f m)) * d ≤ rowsFor n * d = mul-le-mul-right d (row-in f m l p) in
     omega (arith, suc-mul (rowOf (range f m)) d)
 
 -- its cells, counted from the stretch's start, are few

@@ -1,4 +1,4 @@
--- The ranges that splitting gives, and the order of their rows in a stretch. Assumes nothing.
+-- The ranges that splitting gives, and the order of their rows in a stretch.
 use mathlib.Core.Path.{_≡_}
 use Prim.Native.Nat.{ℕ, _+_, _-_, _<_}
 use lib.Dec.{ltb}

@@ -1,4 +1,4 @@
--- A range of one task's ordered paths in numbers: its halves, where its row stands, and the rest that begins at a place. Assumes nothing.
+-- A range of one task's ordered paths in numbers: its halves, where its row stands, and the rest that begins at a place.
 use Prim.Native.Nat.{ℕ, zero, suc, _+_, _-_, _*_}
 use lib.Dec.{ltb, eqb}
 use Rattle.meaning.specs.Lists.{pick}

@@ -1,4 +1,4 @@
--- An edge comes after the one before: its place in the order is the least that is left, or more. Assumes nothing.
+-- An edge comes after the one before: its place in the order is the least that is left, or more.
 use mathlib.Core.Path.{_≡_, refl, sym, _∙_}
 use Prim.Native.Nat.{ℕ, _≤_, _<_}
 use native.Mathlib.Omega.{arith}

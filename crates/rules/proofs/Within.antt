@@ -1,4 +1,4 @@
--- What the tests of a frame's numbers say. Assumes nothing.
+-- What the tests of a frame's numbers say.
 use mathlib.Core.Path.{_≡_, refl, sym}
 use Prim.Native.Nat.{ℕ, _≤_, _<_}
 use native.Mathlib.Omega.{arith}

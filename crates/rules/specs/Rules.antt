@@ -1,4 +1,4 @@
--- The bounds and orders that the numbers of a frame keep. Assumes nothing.
+-- The bounds and orders that the numbers of a frame keep.
 use Prim.Native.Nat.{ℕ, _+_, _*_}
 use mathlib.Core.Bool.{Bool, _&&_}
 use lib.Dec.{leb, ltb}

@@ -1,4 +1,4 @@
--- What the walk over the filled stretches says is document 01's C and witness. Assumes nothing.
+-- What the walk over the filled stretches says is document 01's C and witness.
 use mathlib.Core.Path.{_≡_, refl, sym, ap, ap₂, subst, _∙_}
 use Prim.Native.Nat.{ℕ, suc, _≤_, _<_}
 use native.Mathlib.Omega.{arith}

@@ -1,4 +1,4 @@
--- The filled stretches hold the loads of every range, so that they can be walked. Assumes nothing.
+-- The filled stretches hold the loads of every range, so that they can be walked.
 use mathlib.Core.Path.{_≡_, sym, ap, subst, _∙_}
 use Prim.Native.Nat.{ℕ, zero, suc, _+_, _-_, _*_, _≤_, _<_}
 use native.Mathlib.Omega.{arith}

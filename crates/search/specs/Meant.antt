@@ -1,4 +1,4 @@
--- The verdict that a walk's ending stands for. Assumes nothing.
+-- The verdict that a walk's ending stands for.
 use mathlib.Core.List.{List}
 use Rattle.meaning.specs.Paths.{Path}
 use Rattle.meaning.specs.Verdict.{Verdict, meets, misses, unfinished}

@@ -1,4 +1,4 @@
--- Where a case of a sequence ends. Assumes nothing.
+-- Where a case of a sequence ends.
 use Prim.Native.Nat.{ℕ, _+_, _*_, min}
 use mathlib.Core.List.{List}
 use lib.ListN.{length, getD, replicate}

@@ -1,4 +1,4 @@
--- What a vertex needs of the areas is small, and what rows 10 and 11 say of it. Assumes nothing.
+-- What a vertex needs of the areas is small, and what rows 10 and 11 say of it.
 use mathlib.Core.Path.{_≡_, refl, sym, ap, _∙_}
 use Prim.Native.Nat.{ℕ, _+_, _*_, _≤_, _<_}
 use native.Mathlib.Omega.{arith}

@@ -1,4 +1,4 @@
--- Rows 8 to 11 as verdicts, from numbers, and the verdict of a walk that has ended. Assumes nothing.
+-- Rows 8 to 11 as verdicts, from numbers, and the verdict of a walk that has ended.
 use Prim.Native.Nat.{ℕ}
 use lib.Dec.{ltb}
 use Rattle.meaning.specs.Lists.{pick}

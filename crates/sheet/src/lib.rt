@@ -5,11 +5,12 @@
 use bounds::LONGEST_INPUT;
 use kinds::Refusal;
 use kinds::RefusedAt;
+use kinds::TaskNumber;
 use kinds::Ticks;
 use kinds::Verdict;
 use walk::Ending;
 ghost use mathlib.Core.Path.{_≡_};
-ghost use Prim.Native.Nat.{_+_, _*_, _≤_, _<_};
+ghost use Prim.Native.Nat.{_+_, _*_, _≤_};
 ghost use lib.Dec.{leb, ltb};
 ghost use Rattle.meaning.specs.Bounds.{mostHigher, mostPaths, largestD, longestInput};
 ghost use Rattle.meaning.specs.Areas.{rowsFor};
@@ -36,14 +37,13 @@ pub fn no_such_vertex() -> Verdict
 }
 
 // Row 9, of the lowest-numbered task that it holds of.
-pub fn too_many_paths(task: usize) -> Verdict
-    requires { ⌜ task < mostHigher ⌝ }
-    ensures { λ r. ⌜ r ≡ tooManyPaths task ⌝ }
+pub fn too_many_paths(task: TaskNumber) -> Verdict
+    ensures { λ r. ⌜ r ≡ tooManyPaths (task .0) ⌝ }
 {
     let refusal = Refusal::TooManyPaths;
     Verdict::Refused(RefusedAt {
         refusal,
-        place: task as u32,
+        place: task.0 as u32,
     })
 }
 

@@ -1,4 +1,4 @@
--- A record stands for the table that it is the record of. Assumes nothing.
+-- A record stands for the table that it is the record of.
 use mathlib.Core.Path.{_≡_, refl, ap, ap₂, _∙_}
 use Prim.Native.Nat.{ℕ, _+_, _-_, _<_, suc, _≤_}
 use mathlib.Core.List.{List, [], _∷_, _++_, map, append-assoc}
@@ -8,7 +8,8 @@ use lib.Seq.{take-at, set-append-seam}
 use Rattle.meaning.specs.Bounds.{mostTasks, mostVertices, mostEdges}
 use Rattle.meaning.specs.Table as Meant
 use Rattle.table.specs.declared.Task.{Task}
-use Rattle.table.specs.Record.{padded, noTask, noVertex, noEdge, vertexRecord, edgeRecord, taskRecord, tableRecord, vertexOf, taskOf, tableOf, edgeOf}
+use Rattle.table.specs.Record.{padded, noTask, noVertex, noEdge, vertexRecord, edgeRecord, taskRecord, tableRecord}
+use Rattle.table.specs.Inner.{vertexOf, taskOf, tableOf, edgeOf}
 
 -- the front of a padded list, and an element of it
 pub take-padded : {X : Type 0} (n : ℕ) (z : X) (xs : List X) → take (length xs) (padded n z xs) ≡ xs

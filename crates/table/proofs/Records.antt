@@ -1,4 +1,4 @@
--- The record of a readable table: what stands in its cells. Assumes nothing.
+-- The record of a readable table: what stands in its cells.
 use mathlib.Core.Path.{_≡_, sym, ap, subst, _∙_}
 use Prim.Native.Nat.{ℕ, _≤_, _<_}
 use native.Mathlib.Omega.{arith}
@@ -11,7 +11,8 @@ use Rattle.meaning.specs.Sound.{SoundTask}
 use Rattle.meaning.proofs.Lists.{mem-getD, getD-mapped}
 use Rattle.table.specs.declared.Task.{Task}
 use Rattle.table.specs.declared.Table.{Table}
-use Rattle.table.specs.Record.{taskRecord, tableOf, taskOf, HeldTask, Held}
+use Rattle.table.specs.Record.{taskRecord}
+use Rattle.table.specs.Inner.{tableOf, taskOf, HeldTask, Held}
 use Rattle.table.specs.Record as Blank
 use Rattle.table.proofs.Record.{getD-padded, task-of-record}
 

@@ -1,4 +1,4 @@
--- A vertex of a held table: its cells of the record. Assumes nothing.
+-- A vertex of a held table: its cells of the record.
 use mathlib.Core.Path.{_≡_, ap, _∙_}
 use Prim.Native.Nat.{ℕ, _≤_, _<_}
 use native.Mathlib.Omega.{arith}
@@ -13,7 +13,8 @@ use Rattle.meaning.proofs.Lists.{mem-getD, getD-mapped}
 use Rattle.table.specs.declared.Vertex.{Vertex}
 use Rattle.table.specs.declared.Task.{Task}
 use Rattle.table.specs.declared.Table.{Table}
-use Rattle.table.specs.Record.{taskCells, vertexRecord, tableOf, Held}
+use Rattle.table.specs.Record.{taskCells, vertexRecord}
+use Rattle.table.specs.Inner.{tableOf, Held}
 use Rattle.table.specs.Record as Blank
 use Rattle.table.proofs.Record.{getD-padded, length-padded}
 use Rattle.table.proofs.Records.{held-task, held-sound}

@@ -6,7 +6,8 @@ use bounds::MOST_VERTICES;
 use kinds::Ticks;
 use kinds::VertexNumber;
 ghost use mathlib.Core.Path.{_≡_};
-ghost use Rattle.table.specs.Record.{taskCells, noVertex, noEdge, noTask, noTable};
+ghost use Rattle.table.specs.Record.{taskCells, noVertex, noEdge, noTask};
+ghost use Rattle.table.specs.Inner.{noTable};
 
 pub struct Vertex {
     pub e: Ticks,

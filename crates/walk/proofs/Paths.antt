@@ -1,4 +1,4 @@
--- A group of ranges stands for a group of paths: it is single, splits and overloads as that one. Assumes nothing.
+-- A group of ranges stands for a group of paths: it is single, splits and overloads as that one.
 use mathlib.Core.Path.{_≡_, refl, sym, ap, ap₂, _∙_}
 use Prim.Native.Nat.{ℕ, zero, suc, _+_, _-_, _≤_, _<_}
 use native.Mathlib.Omega.{arith}
@@ -10,7 +10,7 @@ use lib.Dec.{ltb}
 use borrow.Author.Tests.{ltb-false}
 use Rattle.meaning.specs.Groups as Meant
 use Rattle.meaning.specs.Groups.{half, firstPart, secondPart, long, single, groupLoads, overloads}
-use Rattle.meaning.specs.Walk.{heads}
+use Rattle.meaning.specs.Walk.{firstChild, secondChild, heads}
 use Rattle.meaning.proofs.Lists.{drop-take}
 use Rattle.rows.specs.Ranges.{Range, endOf, firstHalf, secondHalf}
 use Rattle.groups.specs.Groups.{firsts, topGroup, allSingle, childBy, InWalk, rowStarts}
@@ -71,11 +71,11 @@ module _ {X : Type 0} where
             let l : long (partOf G x) ≡ false = ap (ltb 1) (part-length G x (fits G x (o .1))) ∙ e in
             rw (e, l) (ap (λ (g : List (List X)). partOf G x ∷ g) i)
 
-  pub group-first-child : (Gs : List (List X)) (xs : List Range) → InWalk (sizes Gs) xs → groupOf Gs (childBy firstHalf xs) ≡ Meant.firstChild (groupOf Gs xs)
+  pub group-first-child : (Gs : List (List X)) (xs : List Range) → InWalk (sizes Gs) xs → groupOf Gs (childBy firstHalf xs) ≡ firstChild (groupOf Gs xs)
   group-first-child = group-child firstHalf firstPart first-half
 
   pub group-second-child : (Gs : List (List X)) (xs : List Range) → InWalk (sizes Gs) xs
-      → groupOf Gs (childBy secondHalf xs) ≡ Meant.secondChild (groupOf Gs xs)
+      → groupOf Gs (childBy secondHalf xs) ≡ secondChild (groupOf Gs xs)
   group-second-child = group-child secondHalf secondPart second-half
 
   pub group-top : (Gs : List (List X)) → groupOf Gs (topGroup (sizes Gs)) ≡ Gs

@@ -1,4 +1,4 @@
--- A run of the code is the run of the walk over ranges. Assumes nothing.
+-- A run of the code is the run of the walk over ranges.
 use mathlib.Core.Path.{_≡_, refl, sym, ap, ap₂, _∙_}
 use Prim.Native.Nat.{ℕ, zero, suc, _+_, _-_, _≤_, _<_}
 use native.Mathlib.Nat.{sub-zero}

@@ -1,4 +1,4 @@
--- The walk over ranges is the walk over groups of paths, step by step. Assumes nothing.
+-- The walk over ranges is the walk over groups of paths, step by step.
 use mathlib.Core.Path.{_≡_, refl, sym, ap, ap₂, subst, _∙_}
 use Prim.Native.Nat.{ℕ, zero, suc, _+_, _≤_}
 use native.Mathlib.Nat.{add-zero, zero-add}
@@ -10,8 +10,8 @@ use lib.Dec.{T, ltb, lt→ltb}
 use lib.ListN.{length}
 use borrow.Author.Tests.{ltb-true, ltb-false}
 use Rattle.meaning.specs.Lists.{pick}
-use Rattle.meaning.specs.Groups as Meant
 use Rattle.meaning.specs.Groups.{overloads, count, witness}
+use Rattle.meaning.specs.Walk as Walked
 use Rattle.meaning.specs.Walk.{Outcome, ended, cut, run}
 use Rattle.meaning.proofs.Lists.{both}
 use Rattle.meaning.proofs.Groups.{full}
@@ -60,10 +60,10 @@ module _ {X : Type 0} (load : X → ℕ → ℕ) (e d : ℕ) (Gs : List (List X)
       subst (λ (m : ℕ). Gives Gs m o r) k (subst (λ (z : Outcome X). Gives Gs (suc n + b) z r) (sym q) g)
 
   children : (xs : List Range) → InWalk ns xs → allSingle xs ≡ false
-      → Meant.firstChild (groupOf Gs xs) ∷ Meant.secondChild (groupOf Gs xs) ∷ behind xs ≡ groupOf Gs (firstChild xs) ∷ behind (firstChild xs)
+      → Walked.firstChild (groupOf Gs xs) ∷ Walked.secondChild (groupOf Gs xs) ∷ behind xs ≡ groupOf Gs (firstChild xs) ∷ behind (firstChild xs)
   children xs o q =
       sym (ap₂ (λ (l : List (List X)) (z : List (List Range)). l ∷ map (groupOf Gs) z) (group-first-child Gs xs o) (pending-child ns xs o q)
-      ∙ ap (λ (r : List (List X)). Meant.firstChild (groupOf Gs xs) ∷ r ∷ behind xs) (group-second-child Gs xs o))
+      ∙ ap (λ (r : List (List X)). Walked.firstChild (groupOf Gs xs) ∷ r ∷ behind xs) (group-second-child Gs xs o))
 
   alike : (b n : ℕ) (xs : List Range) → InWalk ns xs → Alike b n xs
   alike zero n xs o = ap (λ (k : ℕ). walkEnd (Unfinished k) []) (sym (add-zero n))

@@ -1,4 +1,4 @@
--- A step of the code is a step of the walk over ranges. Assumes nothing.
+-- A step of the code is a step of the walk over ranges.
 use mathlib.Core.Path.{_≡_, sym, ap, _∙_}
 use Prim.Native.Nat.{ℕ}
 use native.Mathlib.Omega.{arith}
@@ -52,8 +52,8 @@ module _ {h d e : ℕ} {root count work : List ℕ} {a : Arrays} (f : Walkable h
         short = w .stretches .short;
         baseLength = w .holds .sized .baseLength;
         within = λ j l.
-            let x = standing-at w j l .node in
-            omega (arith, own-start w j l, row-end d (getD root j 0) x (f .stretches .paths j l .0), f .stretches .within j l);
+            let x = standing-at w j l in
+            omega (arith, own-start w j l, row-end d (getD root j 0) (getD (a .first) j 0) (getD (a .len) j 0) (x .within) (x .full), f .stretches .within j l);
         cells = λ j l t k. rw (own-start w j l) (f .cells j l (getD (a .first) j 0) (getD (a .len) j 0) (standing-at w j l .node) t k);
         rise = λ j l t k. rw (own-start w j l) (f .rise j l (getD (a .first) j 0) (getD (a .len) j 0) (standing-at w j l .node) t k);
       }

@@ -1,4 +1,4 @@
--- What a judge needs: from rows that hold the ranges' loads, and the run's answer on them, to C and the witness. Assumes nothing.
+-- What a judge needs: from rows that hold the ranges' loads, and the run's answer on them, to C and the witness.
 use mathlib.Core.Path.{_≡_, sym, ap, ap₂, _∙_}
 use Prim.Native.Nat.{ℕ, zero, suc, _<_}
 use native.Mathlib.Omega.{arith}

@@ -1,4 +1,4 @@
--- What the walk asks of the work area that is lent, and what a step promises of the arrays. Assumes nothing.
+-- What the walk asks of the work area that is lent, and what a step promises of the arrays.
 use mathlib.Core.Path.{_≡_}
 use Prim.Native.Nat.{ℕ, suc, _+_, _≤_, _<_}
 use mathlib.Core.List.{List}

@@ -1,4 +1,4 @@
--- A step examines one group; a run takes at most as many steps as the budget. Assumes nothing.
+-- A step examines one group; a run takes at most as many steps as the budget.
 use Prim.Native.Nat.{ℕ, zero, suc}
 use mathlib.Core.Bool.{Bool}
 use mathlib.Core.Option.{Option, none, some}

@@ -1,4 +1,4 @@
--- What the walk over rows says of a top group of paths, whatever the paths X and their loads. Assumes nothing.
+-- What the walk over rows says of a top group of paths, whatever the paths X and their loads.
 use mathlib.Core.Path.{_≡_}
 use Prim.Native.Nat.{ℕ, suc, _+_, _≤_, _<_}
 use mathlib.Core.Option.{none, some}

@@ -1,4 +1,4 @@
--- The paths of a task are the ways over its columns. Assumes nothing.
+-- The paths of a task are the ways over its columns.
 use mathlib.Core.Path.{_≡_, refl, sym, ap, ap₂, _∙_}
 use Prim.Native.Nat.{ℕ, zero, suc, _+_, _-_, _≤_, _<_}
 use native.Mathlib.Omega.{arith}

@@ -1,4 +1,4 @@
--- The rows of the ways over a task's columns are its paths' loads. Assumes nothing.
+-- The rows of the ways over a task's columns are its paths' loads.
 use mathlib.Core.Path.{_≡_, refl, sym, ap, ap₂, subst, _∙_}
 use Prim.Native.Nat.{ℕ, zero, suc, _+_, _-_, _≤_, _<_}
 use native.Mathlib.Nat.{add-zero}

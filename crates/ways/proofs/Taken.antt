@@ -1,4 +1,4 @@
--- What each way on takes: edges out of its vertices, each with room left, and so fewer than the ticks. Assumes nothing.
+-- What each way on takes: edges out of its vertices, each with room left, and so fewer than the ticks.
 use mathlib.Core.Path.{_≡_, refl, sym, subst}
 use Prim.Native.Nat.{ℕ, zero, suc, _+_, _-_, _≤_, _<_}
 use native.Mathlib.Omega.{arith}

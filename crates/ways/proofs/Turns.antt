@@ -1,4 +1,4 @@
--- The edges out of a vertex, tried one after the other. Assumes nothing.
+-- The edges out of a vertex, tried one after the other.
 use mathlib.Core.Path.{_≡_, ap, ap₂}
 use Prim.Native.Nat.{ℕ, _+_, _-_, _≤_, _<_}
 use native.Mathlib.Omega.{arith}

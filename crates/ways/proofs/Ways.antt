@@ -1,4 +1,4 @@
--- The ways on from a vertex, an edge at a time. Assumes nothing.
+-- The ways on from a vertex, an edge at a time.
 use mathlib.Core.Path.{_≡_, refl, sym, ap, ap₂, _∙_}
 use Prim.Native.Nat.{ℕ, zero, suc, _+_, _-_, _≤_, _<_, zero-le, max}
 use native.Mathlib.Numerals.{add-one}

@@ -1,4 +1,4 @@
--- The loads of a path, written by runs: the total stands from a release to the next. Assumes nothing.
+-- The loads of a path, written by runs: the total stands from a release to the next.
 use Prim.Native.Nat.{ℕ, _+_, _-_}
 use mathlib.Core.List.{List, [], _∷_, _++_, map}
 use lib.ListN.{getD, replicate}

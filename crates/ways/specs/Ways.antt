@@ -1,4 +1,4 @@
--- The complete paths over the columns of a task, each as the list of the edges that it takes: a way on from a vertex. Assumes nothing.
+-- The complete paths over the columns of a task, each as the list of the edges that it takes: a way on from a vertex.
 use Prim.Native.Nat.{ℕ, zero, suc, _-_}
 use mathlib.Core.List.{List, [], _∷_, map}
 use lib.ListN.{getD}

@@ -1,8 +1,8 @@
 // Sums and differences that stay within their width. No readable table gets to where they stop.
 pub(crate) fn sum(a: u32, b: u32) -> u32 {
-    let room = 4294967295 - a;
+    let room = u32::MAX - a;
     if room < b {
-        return 4294967295;
+        return u32::MAX;
     }
     a + b
 }

@@ -30,13 +30,9 @@ fn run_end(words: &[u8], from: usize) -> usize
     i
 }
 
+// The digits 0 to 3 are theirs modulo 4, since that of 0 is 48.
 fn number_of(numbers: [u32; 4], digit: u8) -> u32 {
-    match digit {
-        b'0' => numbers[0],
-        b'1' => numbers[1],
-        b'2' => numbers[2],
-        _ => numbers[3],
-    }
+    numbers[(digit % 4) as usize]
 }
 
 fn say_mark(mark: u8, n: u32) {

@@ -3,13 +3,18 @@ use crate::line::say_line;
 use crate::print::end_line;
 use crate::print::say;
 use crate::print::say_with;
-use bounds::DESK_WORK;
-use bounds::LONGEST_INPUT;
-use bounds::MOST_PATHS;
-use bounds::MOST_WITNESS;
 use kinds::Refusal;
 use kinds::RefusedAt;
 use kinds::refusal_number;
+
+// The numbers that a row is held to, in the width of what is said.
+const MOST_PATHS: u32 = bounds::MOST_PATHS as u32;
+
+const DESK_WORK: u32 = bounds::DESK_WORK as u32;
+
+const MOST_WITNESS: u32 = bounds::MOST_WITNESS as u32;
+
+const LONGEST_INPUT: u32 = bounds::LONGEST_INPUT as u32;
 
 // A row that refuses a line.
 fn say_at_line(line: u32, row: &[u8]) {
@@ -18,17 +23,9 @@ fn say_at_line(line: u32, row: &[u8]) {
 }
 
 // A row with what it returns and the number that it is held to.
-fn say_place(row: &[u8], place: u32, held_to: usize) {
+fn say_place(row: &[u8], place: u32, held_to: u32) {
     say(b": ");
-    say_with(row, [place, least_word(held_to), 0, 0]);
-}
-
-// As many as a word can say.
-fn least_word(n: usize) -> u32 {
-    if 4294967295 < n {
-        return 4294967295;
-    }
-    n as u32
+    say_with(row, [place, held_to, 0, 0]);
 }
 
 // The rows that refuse a line, 1 to 7, and then those that refuse a vertex or an input.

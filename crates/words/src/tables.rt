@@ -1,21 +1,32 @@
-// A readable table: a line for each vertex, "in rising order of task and then vertex", and the counts.
-use crate::counts::Counts;
-use crate::counts::counted;
-use crate::counts::no_counts;
-use crate::counts::say_counts;
+// A readable table: a line for each vertex, "in rising order of task and then vertex". "Lends 8,192 work cells and 1,407 witness cells, and uses budget
+// 100,000."
 use crate::print::say_with;
 use crate::verdicts::say_verdict;
 use bounds::DESK_BUDGET;
-use bounds::MOST_TASKS;
-use bounds::MOST_VERTICES;
+use bounds::DESK_WORK;
+use bounds::MOST_WITNESS;
+use counts::Counts;
+use counts::counted;
+use counts::no_counts;
+use counts::places::first_place;
+use counts::places::next_place;
+use judge::TableVerdict;
 use judge::judge;
 use kinds::TaskNumber;
 use kinds::Verdict;
 use kinds::VertexNumber;
+use reader::Status;
+use reader::read;
 use table::Table;
 use table::Vertex;
-ghost use Prim.Native.Nat.{_<_};
-ghost use Rattle.meaning.specs.Bounds.{mostTasks};
+ghost use mathlib.Core.Path.{_≡_};
+ghost use Rattle.meaning.specs.Bounds.{deskBudget, deskWork};
+ghost use Rattle.meaning.specs.Text.{readable, read};
+ghost use Rattle.meaning.specs.Whole.{verdicts, countsOf, tableAnswer};
+ghost use Rattle.table.specs.Inner.{tableOf, Held};
+ghost use Rattle.counts.specs.Counts.{meantCounts};
+ghost use Rattle.judge.specs.Judged.{Judged};
+ghost use Rattle.judge.specs.Whole.{answerOf};
 
 fn say_name(task: TaskNumber, vertex: VertexNumber) {
     say_with(
@@ -33,50 +44,46 @@ fn say_vertex(
     job: Vertex,
     work: &mut [u32],
     witness: &mut [u16],
-) -> Verdict {
+) -> Verdict
+    ensures { λ r. ⌜ Judged (now (text .entry)) (task .0) (vertex .0) deskBudget (now (work .entry)) (now (witness .entry)) r (now (work .exit)) (now (witness .exit)) ⌝ }
+{
     let verdict = judge(text, task, vertex, DESK_BUDGET, work, witness);
     say_name(task, vertex);
     say_verdict(table, job, verdict, witness);
     verdict
 }
 
-// The vertices of task k; gives the counts with them.
-fn say_vertices(
-    text: &[u8],
-    table: Table,
-    k: usize,
-    counts: Counts,
-    work: &mut [u32],
-    witness: &mut [u16],
-) -> Counts
-    requires { ⌜ k < mostTasks ⌝ }
+// Every vertex of a text's table; gives the four counts of the table's verdicts.
+fn say_vertices(text: &[u8], table: Table) -> Counts
+    requires { ⌜ Held table × (read (now text) ≡ readable (tableOf table)) ⌝ }
+    ensures { λ r. ⌜ meantCounts r ≡ countsOf (verdicts (tableOf table) deskBudget deskWork) ⌝ }
 {
-    let own = table.tasks[k];
-    let task = TaskNumber(k as u8);
-    let mut all = counts;
-    let mut v: usize = 0;
-    while v < MOST_VERTICES {
-        if v == own.nv {
-            return all;
-        }
-        let job = own.vertices[v];
-        let vertex = VertexNumber(v as u8);
-        let verdict = say_vertex(text, table, task, vertex, job, work, witness);
-        all = counted(all, verdict);
-        v += 1;
+    let mut work = [0u32; DESK_WORK];
+    let mut witness = [0u16; MOST_WITNESS];
+    let mut counts = no_counts();
+    let mut at = first_place();
+    while (at.task.0 as usize) < table.n {
+        let task = at.task;
+        let vertex = at.vertex;
+        let own = table.tasks[task.0 as usize];
+        let job = own.vertices[vertex.0 as usize];
+        let verdict = say_vertex(text, table, task, vertex, job, &mut work, &mut witness);
+        counts = counted(counts, verdict);
+        at = next_place(own.nv, at);
     }
-    all
+    counts
 }
 
-pub(crate) fn say_table(text: &[u8], table: Table, work: &mut [u32], witness: &mut [u16]) {
-    let mut counts = no_counts();
-    let mut k: usize = 0;
-    while k < MOST_TASKS {
-        if k == table.n {
-            break;
-        }
-        counts = say_vertices(text, table, k, counts, work, witness);
-        k += 1;
-    }
-    say_counts(counts);
+// The lines of a readable text; gives what `judge_table` answers for the text.
+pub(crate) fn say_lines(text: &[u8]) -> TableVerdict
+    ensures { λ r. ⌜ answerOf r ≡ tableAnswer (read (now (text .entry))) deskBudget deskWork ⌝ }
+{
+    let reading = read(text);
+    let status = reading.status;
+    let Status::Refused(at) = status else {
+        let table = reading.table;
+        let counts = say_vertices(text, table);
+        return TableVerdict::Counted(counts);
+    };
+    TableVerdict::Refused(at)
 }

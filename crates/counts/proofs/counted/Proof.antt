@@ -1,5 +1,5 @@
 use mathlib.Core.Path.{sym, ap}
-use Rattle.counts.specs.Counts.{oneMore}
+use Rattle.counts.specs.Inner.{oneMore}
 use borrow.Author.Needs.{needs}
 use Rattle.counts.proofs.counted.Statement.{statement}
 use Rattle.counts.proofs.counted.Tie as tie

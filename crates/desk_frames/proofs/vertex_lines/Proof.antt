@@ -1,4 +1,5 @@
 use mathlib.Core.Path.{ap}
+use native.Mathlib.Omega.{arith}
 use Rattle.desk_frames.specs.Lines.{placeOf, shownPaths}
 use Rattle.desk_frames.proofs.VertexLines.{verdict-asks, VerdictPut, shown-alone, paths-ask, shown-all}
 use borrow.Author.Needs.{needs}
@@ -26,7 +27,10 @@ cast-path-lines : tie.Need-cast-path-lines
 cast-path-lines c = search needs
 
 path-lines-requires : tie.Need-path-lines-requires
-path-lines-requires c κs = paths-ask (put (c .before .before .before .before .before .before)) (c .before .before .enum-told2 .given .1) (search needs)
+path-lines-requires c κs =
+    let verdict = put (c .before .before .before .before .before .before) in
+    let asks = paths-ask verdict (c .before .before .enum-told2 .given .1) (search needs) in
+    (asks .0, asks .1, omega (arith, asks .2, verdict .wrote .end))
 
 enum-told-3 : tie.Need-enum-told-3
 enum-told-3 c = search needs

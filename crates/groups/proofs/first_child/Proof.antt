@@ -42,7 +42,7 @@ row-start-requires c κs =
     let half = c .before .before in
     let turn = half .before .before .before .before in
     let i = turn .loop .inv in
-    child-asks (turn .before .pre) (omega arith) (rw (i .2) at (half .before .if1 .taken)) (rw (i .2) at (half .half .ensures))
+    child-asks (turn .before .pre) (omega arith) (rw (i .2) at (half .half .ensures))
 
 mul-base : tie.Need-mul-base Inv-loop μ-loop
 mul-base c = omega arith
@@ -62,7 +62,7 @@ returns c =
     let turn = half .before .before .before .before in
     let i = turn .loop .inv in
     rw (i .1, i .2)
-    (child-found (turn .before .pre) (omega arith) (rw (i .2) at (half .before .if1 .taken)) (rw (i .2) at (half .half .ensures)) (c .row-start .result) (i .3)
+    (child-found (turn .before .pre) (omega arith) (rw (i .2) at (half .half .ensures)) (rw (i .2) at (half .before .if1 .taken)) (c .row-start .result) (i .3)
     (c .row-start .ensures))
 
 add-j : tie.Need-add-j Inv-loop μ-loop

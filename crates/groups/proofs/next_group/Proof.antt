@@ -1,6 +1,6 @@
 use native.Mathlib.Omega.{arith}
 use Rattle.groups.specs.Lent.{arrays}
-use Rattle.groups.proofs.NextGroup.{Back, back-start, back-end, back-asks, back-asks-whole, back-found, back-more, back-none}
+use Rattle.groups.proofs.NextGroup.{Back, back-start, back-end, back-asks, back-asks-rest, back-found, back-more, back-none}
 use Rattle.groups.proofs.next_group.Statement.{statement}
 use Rattle.groups.proofs.next_group.Tie as tie
 
@@ -58,7 +58,7 @@ put-requires c κs =
     let rest = c .before .before .before in
     let l = rest .before .before .before .before .before .before .before in
     let w = l .before .pre in
-    back-asks w (omega arith) (l .loop .inv) (rest .before .if1 .taken) (rest .rest-length .result) (rest .rest-length .ensures)
+    back-asks-rest w (omega arith) (l .loop .inv) (rest .before .if1 .taken) (rest .rest-length .result) (rest .rest-length .ensures)
 
 returns : tie.Need-returns Inv-loop μ-loop
 returns c =
@@ -72,7 +72,8 @@ put-requires-2 : tie.Need-put-requires-2 Inv-loop μ-loop
 put-requires-2 c κs =
     let l = c .before .before .before .before .before .before .before .before .before in
     let w = l .before .pre in
-    back-asks-whole w {b = arrays (l .loop .base) (l .loop .first) (l .loop .len)} (omega arith) (l .loop .inv)
+    let end = back-end w {b = arrays (l .loop .base) (l .loop .first) (l .loop .len)} (omega arith) (l .loop .inv) in
+    back-asks w {b = arrays (l .loop .base) (l .loop .first) (l .loop .len)} (omega arith) (l .loop .inv) _ (omega (arith, end)) (omega (arith, end))
 
 loop-less : tie.Need-loop-less Inv-loop μ-loop
 loop-less c = omega arith

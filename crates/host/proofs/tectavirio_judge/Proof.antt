@@ -1,7 +1,13 @@
-use Rattle.host.proofs.Telling.{vertex-told}
+use Rattle.host.proofs.Wide.{wide-judged}
 use borrow.Author.Needs.{needs}
 use Rattle.host.proofs.tectavirio_judge.Statement.{statement}
 use Rattle.host.proofs.tectavirio_judge.Tie as tie
+
+narrow-requires : tie.Need-narrow-requires
+narrow-requires c κs = search needs
+
+narrow-requires-2 : tie.Need-narrow-requires-2
+narrow-requires-2 c κs = search needs
 
 judge-requires : tie.Need-judge-requires
 judge-requires c κs = search needs
@@ -24,14 +30,24 @@ same-length-2 c = search needs
 returns : tie.Need-returns
 returns c =
     let was = c .before .before .before .before .before .before .before in
-    let s = was .before .before .before .before .before .before .args in
-    vertex-told (s .text .now) (s .task) (s .vertex) (s .budget) (was .judge .result) (was .judge .ensures)
-    (c .verdict-number .ensures) (c .before .before .verdict-value .ensures) (c .before .verdict-place .ensures)
+    let task = was .before .before .before .before in
+    let vertex = was .before .before .before in
+    let s = task .before .before .before .before .args in
+    record {
+      verdict = was .judge .result;
+      judged =
+          wide-judged (s .text .now) (s .task) (s .vertex) (s .budget) (task .narrow .ensures) (vertex .narrow2 .ensures) (was .judge .ensures);
+      number-is = c .verdict-number .ensures;
+      value-is = c .before .before .verdict-value .ensures;
+      place-is = c .before .verdict-place .ensures;
+    }
 
 pub tectavirio-judge-spec : {M : Type 1} → statement M
 tectavirio-judge-spec =
     tie.close
     (tie.spec
+    narrow-requires
+    narrow-requires-2
     judge-requires
     verdict-value-requires
     verdict-place-requires

@@ -2,7 +2,7 @@ use lib.ListN.{length}
 use mathlib.Core.Path.{sym}
 use native.Mathlib.Omega.{arith}
 use borrow.Author.Needs.{needs}
-use Rattle.table.specs.Record.{taskOf}
+use Rattle.table.specs.Inner.{taskOf}
 use Rattle.ranges.proofs.WholeStretch.{room-for, stretch-is}
 use Rattle.ranges.proofs.fill.Statement.{statement}
 use Rattle.ranges.proofs.fill.Tie as tie

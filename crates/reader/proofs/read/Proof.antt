@@ -1,4 +1,5 @@
 use Rattle.reader.proofs.Turn.{Turn, turn-first, FrameTurn, frame-refused, end-not-last, end-last, TaskFacts, task-facts, TaskTurn, lines-few, task-stops, task-more}
+use Rattle.reader.proofs.Result.{reading-reads}
 use Rattle.meaning.specs.Bounds.{mostTasks}
 use Prim.Native.Nat.{_-_}
 use mathlib.Core.Path.{sym, _∙_}
@@ -71,7 +72,7 @@ returns : tie.Need-returns Inv-loop μ-loop
 returns c =
     let at-next = c .before .before in
     let at-place = at-next .before .before in
-    (c .refused .ensures) ∙ frame-refused (frame (at-place)) (at-next .next .given .1)
+    reading-reads _ _ (c .refused .ensures ∙ frame-refused (frame at-place) (at-next .next .given .1))
 
 enum-told : tie.Need-enum-told Inv-loop μ-loop
 enum-told c = search needs
@@ -89,10 +90,10 @@ returns-2 : tie.Need-returns-2 Inv-loop μ-loop
 returns-2 c =
     let at-enum-told = c .before .before in
     let at-place = at-enum-told .before .before in
-    (c .refused2 .ensures) ∙ end-not-last (frame (at-place)) (at-enum-told .enum-told .given .1) (c .before .if1 .taken)
+    reading-reads _ _ (c .refused2 .ensures ∙ end-not-last (frame at-place) (at-enum-told .enum-told .given .1) (c .before .if1 .taken))
 
 returns-3 : tie.Need-returns-3 Inv-loop μ-loop
-returns-3 c = end-last (frame (c .before .before .before)) (c .before .enum-told .given .1) (c .if1 .left)
+returns-3 c = reading-reads _ _ (end-last (frame (c .before .before .before)) (c .before .enum-told .given .1) (c .if1 .left))
 
 enum-known-next-2 : tie.Need-enum-known-next-2 Inv-loop μ-loop
 enum-known-next-2 c = search needs
@@ -126,7 +127,7 @@ returns-4 : tie.Need-returns-4 Inv-loop μ-loop
 returns-4 c =
     let at-outcome = c .before .before .before in
     let at-place = at-outcome .before .before in
-    (c .refused3 .ensures) ∙ task-stops (lines (at-place)) (at-outcome .outcome .given .1)
+    reading-reads _ _ (c .refused3 .ensures ∙ task-stops (lines at-place) (at-outcome .outcome .given .1))
 
 enum-told-2 : tie.Need-enum-told-2 Inv-loop μ-loop
 enum-told-2 c = search needs

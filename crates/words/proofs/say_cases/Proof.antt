@@ -1,4 +1,3 @@
-use mathlib.Core.Path.{_≡_}
 use Prim.Native.Nat.{_-_, _≤_}
 use lib.ListN.{length}
 use borrow.Author.Needs.{needs}
@@ -6,10 +5,10 @@ use Rattle.words.proofs.say_cases.Statement.{statement}
 use Rattle.words.proofs.say_cases.Tie as tie
 
 abbrev Inv-loop : tie.InvT-loop
-Inv-loop bytes work₀ witness₀ at₀ work witness at = (at ≤ length bytes) × (length work ≡ length work₀) × (length witness ≡ length witness₀)
+Inv-loop bytes at₀ at = at ≤ length bytes
 
 abbrev μ-loop : tie.MeasureT-loop
-μ-loop bytes work₀ witness₀ at₀ work witness at = length bytes - at
+μ-loop bytes at₀ at = length bytes - at
 
 loop-holds : tie.Need-loop-holds Inv-loop μ-loop
 loop-holds c = search needs
@@ -44,12 +43,6 @@ loop-less c = search needs
 loop-again : tie.Need-loop-again Inv-loop μ-loop
 loop-again c = search needs
 
-same-length : tie.Need-same-length Inv-loop μ-loop
-same-length c = search needs
-
-same-length-2 : tie.Need-same-length-2 Inv-loop μ-loop
-same-length-2 c = search needs
-
 returns : tie.Need-returns Inv-loop μ-loop
 returns c = search needs
 
@@ -70,6 +63,4 @@ say-cases-spec =
     say-case-requires
     loop-less
     loop-again
-    same-length
-    same-length-2
     returns)

@@ -2,7 +2,7 @@ use Prim.Native.Nat.{_-_, _≤_, _<_}
 use native.Mathlib.Omega.{arith}
 use borrow.Author.Needs.{needs}
 use Rattle.meaning.specs.Table.{higher}
-use Rattle.table.specs.Record.{tableOf}
+use Rattle.table.specs.Inner.{tableOf}
 use Rattle.table.proofs.Records.{held-few}
 use Rattle.meaning.specs.Bounds.{mostVertices}
 use Rattle.table.proofs.Vertices.{ownTask, own-few}
@@ -66,8 +66,7 @@ cast-h c = search needs
 mul-own : tie.Need-mul-own Inv-loop μ-loop Inv-loop2 μ-loop2 Inv-loop3 μ-loop3
 mul-own c = search needs
 
-element-copy-out-own :
-    tie.Need-element-copy-out-own Inv-loop μ-loop Inv-loop2 μ-loop2 Inv-loop3 μ-loop3
+element-copy-out-own : tie.Need-element-copy-out-own Inv-loop μ-loop Inv-loop2 μ-loop2 Inv-loop3 μ-loop3
 element-copy-out-own c =
     let entry = c .before .before .before in
     let l : entry .args .task .0 < entry .args .t1 .n = task-in (asked entry) in
@@ -79,16 +78,14 @@ cast-job c = search needs
 mul-job : tie.Need-mul-job Inv-loop μ-loop Inv-loop2 μ-loop2 Inv-loop3 μ-loop3
 mul-job c = search needs
 
-array-copy-out-job :
-    tie.Need-array-copy-out-job Inv-loop μ-loop Inv-loop2 μ-loop2 Inv-loop3 μ-loop3
+array-copy-out-job : tie.Need-array-copy-out-job Inv-loop μ-loop Inv-loop2 μ-loop2 Inv-loop3 μ-loop3
 array-copy-out-job c =
     let entry = c .before .before .before .before .before .before in
     let few : ownTask (entry .args .t1) (entry .args .task .0) .nv ≤ mostVertices = own-few (entry .args .t1) (entry .pre .0) (entry .args .task .0) (task-in (asked entry)) .0 in
     let m : entry .args .vertex .0 < ownTask (entry .args .t1) (entry .args .task .0) .nv = vertex-in (asked entry) in
     omega arith
 
-none-above-requires :
-    tie.Need-none-above-requires Inv-loop μ-loop Inv-loop2 μ-loop2 Inv-loop3 μ-loop3
+none-above-requires : tie.Need-none-above-requires Inv-loop μ-loop Inv-loop2 μ-loop2 Inv-loop3 μ-loop3
 none-above-requires c κs = search needs
 
 loop-holds : tie.Need-loop-holds Inv-loop μ-loop Inv-loop2 μ-loop2 Inv-loop3 μ-loop3
@@ -99,23 +96,23 @@ loop-holds c =
 mul-next : tie.Need-mul-next Inv-loop μ-loop Inv-loop2 μ-loop2 Inv-loop3 μ-loop3
 mul-next c = search needs
 
-element-copy-out-next :
-    tie.Need-element-copy-out-next Inv-loop μ-loop Inv-loop2 μ-loop2 Inv-loop3 μ-loop3
+element-copy-out-next : tie.Need-element-copy-out-next Inv-loop μ-loop Inv-loop2 μ-loop2 Inv-loop3 μ-loop3
 element-copy-out-next c = search needs
 
 add-path-count : tie.Need-add-path-count Inv-loop μ-loop Inv-loop2 μ-loop2 Inv-loop3 μ-loop3
 add-path-count c = search needs
 
-path-count-requires :
-    tie.Need-path-count-requires Inv-loop μ-loop Inv-loop2 μ-loop2 Inv-loop3 μ-loop3
+path-count-requires : tie.Need-path-count-requires Inv-loop μ-loop Inv-loop2 μ-loop2 Inv-loop3 μ-loop3
 path-count-requires c κs =
     let counted = c .before in
     let counting = counted .before in
     let entry = counting .before .before .before .before .before .before .before .before .before in
     count-asks (asked entry) _ (counting .loop .j) (counted .loop-test .taken)
 
-too-many-paths-requires :
-    tie.Need-too-many-paths-requires Inv-loop μ-loop Inv-loop2 μ-loop2 Inv-loop3 μ-loop3
+cast-crowded : tie.Need-cast-crowded Inv-loop μ-loop Inv-loop2 μ-loop2 Inv-loop3 μ-loop3
+cast-crowded c = search needs
+
+too-many-paths-requires : tie.Need-too-many-paths-requires Inv-loop μ-loop Inv-loop2 μ-loop2 Inv-loop3 μ-loop3
 too-many-paths-requires c κs = search needs
 
 returns : tie.Need-returns Inv-loop μ-loop Inv-loop2 μ-loop2 Inv-loop3 μ-loop3
@@ -128,8 +125,7 @@ returns c =
     answer-9 (asked entry) (counting .loop .above) (counting .loop .j) (counting .loop .inv) _ (counted .loop-test .taken)
     (listed .path-count .result) (listed .path-count .ensures) (at-if1 .if1 .taken) (c .too-many-paths .ensures)
 
-with-paths-requires :
-    tie.Need-with-paths-requires Inv-loop μ-loop Inv-loop2 μ-loop2 Inv-loop3 μ-loop3
+with-paths-requires : tie.Need-with-paths-requires Inv-loop μ-loop Inv-loop2 μ-loop2 Inv-loop3 μ-loop3
 with-paths-requires c κs =
     let listed = c .before in
     let counted = listed .before .before in
@@ -154,8 +150,7 @@ loop-again c =
     counting-more (asked entry) (counting .loop .above) (counting .loop .j) (counting .loop .inv) _ (counted .loop-test .taken)
     (listed .path-count .result) (listed .path-count .ensures) (at-if1 .if1 .left) (c .with-paths .ensures)
 
-area-rows-requires :
-    tie.Need-area-rows-requires Inv-loop μ-loop Inv-loop2 μ-loop2 Inv-loop3 μ-loop3
+area-rows-requires : tie.Need-area-rows-requires Inv-loop μ-loop Inv-loop2 μ-loop2 Inv-loop3 μ-loop3
 area-rows-requires c κs =
     area-asks _ (counted-all c)
 
@@ -179,26 +174,22 @@ loop2-holds c =
 mul-next-2 : tie.Need-mul-next-2 Inv-loop μ-loop Inv-loop2 μ-loop2 Inv-loop3 μ-loop3
 mul-next-2 c = search needs
 
-element-copy-out-next-2 :
-    tie.Need-element-copy-out-next-2 Inv-loop μ-loop Inv-loop2 μ-loop2 Inv-loop3 μ-loop3
+element-copy-out-next-2 : tie.Need-element-copy-out-next-2 Inv-loop μ-loop Inv-loop2 μ-loop2 Inv-loop3 μ-loop3
 element-copy-out-next-2 c = search needs
 
 mul-from : tie.Need-mul-from Inv-loop μ-loop Inv-loop2 μ-loop2 Inv-loop3 μ-loop3
 mul-from c = search needs
 
-element-copy-out-from :
-    tie.Need-element-copy-out-from Inv-loop μ-loop Inv-loop2 μ-loop2 Inv-loop3 μ-loop3
+element-copy-out-from : tie.Need-element-copy-out-from Inv-loop μ-loop Inv-loop2 μ-loop2 Inv-loop3 μ-loop3
 element-copy-out-from c = search needs
 
 mul-paths : tie.Need-mul-paths Inv-loop μ-loop Inv-loop2 μ-loop2 Inv-loop3 μ-loop3
 mul-paths c = search needs
 
-element-copy-out-paths :
-    tie.Need-element-copy-out-paths Inv-loop μ-loop Inv-loop2 μ-loop2 Inv-loop3 μ-loop3
+element-copy-out-paths : tie.Need-element-copy-out-paths Inv-loop μ-loop Inv-loop2 μ-loop2 Inv-loop3 μ-loop3
 element-copy-out-paths c = search needs
 
-fill-stretch-requires :
-    tie.Need-fill-stretch-requires Inv-loop μ-loop Inv-loop2 μ-loop2 Inv-loop3 μ-loop3
+fill-stretch-requires : tie.Need-fill-stretch-requires Inv-loop μ-loop Inv-loop2 μ-loop2 Inv-loop3 μ-loop3
 fill-stretch-requires c κs =
     let filled = c .before .before .before .before in
     let filling = filled .before in
@@ -247,19 +238,16 @@ loop3-holds c =
 mul-next-3 : tie.Need-mul-next-3 Inv-loop μ-loop Inv-loop2 μ-loop2 Inv-loop3 μ-loop3
 mul-next-3 c = search needs
 
-element-copy-out-next-3 :
-    tie.Need-element-copy-out-next-3 Inv-loop μ-loop Inv-loop2 μ-loop2 Inv-loop3 μ-loop3
+element-copy-out-next-3 : tie.Need-element-copy-out-next-3 Inv-loop μ-loop Inv-loop2 μ-loop2 Inv-loop3 μ-loop3
 element-copy-out-next-3 c = search needs
 
 mul-write-place : tie.Need-mul-write-place Inv-loop μ-loop Inv-loop2 μ-loop2 Inv-loop3 μ-loop3
 mul-write-place c = search needs
 
-array-read-write-place :
-    tie.Need-array-read-write-place Inv-loop μ-loop Inv-loop2 μ-loop2 Inv-loop3 μ-loop3
+array-read-write-place : tie.Need-array-read-write-place Inv-loop μ-loop Inv-loop2 μ-loop2 Inv-loop3 μ-loop3
 array-read-write-place c = search needs
 
-write-place-requires :
-    tie.Need-write-place-requires Inv-loop μ-loop Inv-loop2 μ-loop2 Inv-loop3 μ-loop3
+write-place-requires : tie.Need-write-place-requires Inv-loop μ-loop Inv-loop2 μ-loop2 Inv-loop3 μ-loop3
 write-place-requires c κs =
     let written = c .before .before in
     let writing = written .before in
@@ -353,6 +341,7 @@ judge-vertex-spec =
     element-copy-out-next
     add-path-count
     path-count-requires
+    cast-crowded
     too-many-paths-requires
     returns
     with-paths-requires

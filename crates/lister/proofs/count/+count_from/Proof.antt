@@ -10,12 +10,11 @@ use Rattle.lister.proofs.count.count_from.Kinds as count-from-kinds
 use Rattle.lister.proofs.count.+count_from.Lts-count_from as count-from-lts
 use Rattle.lister.proofs.follow.follow.Reads as follow-reads
 use Rattle.columns.proofs.numbers.index.Reads as index-reads
-use Rattle.columns.proofs.numbers.separation.Reads as separation-reads
 use Rattle.lister.proofs.count.+count_from.{statement}
 use Rattle.lister.proofs.count.+count_from.Tie.{close}
 
 abbrev μ-count-from : Measures 3 count-from-kinds.ps ℕ
-μ-count-from κs a = a .1 .1 .1 .1 .0
+μ-count-from κs a = a .1 .1 .1 .1 .0 .0
 
 abbrev count-from-at : ℕ → In 3 count-from-kinds.ps
 count-from-at t = and 3 count-from-kinds.ps (is 3 count-from-kinds.ps μ-count-from t) count-from.Pre
@@ -25,116 +24,130 @@ count-from-below t = and 3 count-from-kinds.ps (falls 3 count-from-kinds.ps _<_ 
 
 -- the readings of the callees, once
 abbrev claims : ℕ → count-from-lts.Claims
-claims t = (follow-reads.Asked, follow-reads.Learnt, index-reads.Asked, index-reads.Learnt, separation-reads.Asked, separation-reads.Learnt, count-from-below t, count-from.Post)
+claims t = (follow-reads.Asked, follow-reads.Learnt, index-reads.Asked, index-reads.Learnt, count-from-below t, count-from.Post)
 
 abbrev Inv-loop : count-from-lts.InvT-loop
-Inv-loop start to p v r cap u left end k₀ sum₀ k sum = Counting start to p u left cap end k sum
+Inv-loop start to p cap u left end k₀ sum₀ k sum = Counting start to p u (left .0) cap end k sum
 
 abbrev μ-loop : count-from-lts.MeasureT-loop
-μ-loop start to p v r cap u left end k₀ sum₀ k sum = end - k
+μ-loop start to p cap u left end k₀ sum₀ k sum = end - k
 
 count-from-follow-requires : (t : ℕ) → count-from-lts.Need-follow-requires (claims t) (count-from-at t) count-from.Post Inv-loop μ-loop
 count-from-follow-requires t c κs = (c .pre .1 .0, (c .pre .1 .1 .0, c .pre .1 .1 .1))
 
+count-from-cast-u : (t : ℕ) → count-from-lts.Need-cast-u (claims t) (count-from-at t) count-from.Post Inv-loop μ-loop
+count-from-cast-u t c = search needs
+
 count-from-add-index : (t : ℕ) → count-from-lts.Need-add-index (claims t) (count-from-at t) count-from.Post Inv-loop μ-loop
-count-from-add-index t c = omega (arith, c .follow .ensures .vertex)
+count-from-add-index t c = omega (arith, c .before .before .follow .ensures .vertex)
 
 count-from-element-copy-out-index : (t : ℕ) → count-from-lts.Need-element-copy-out-index (claims t) (count-from-at t) count-from.Post Inv-loop μ-loop
-count-from-element-copy-out-index t c = omega (arith, c .follow .ensures .vertex)
+count-from-element-copy-out-index t c = omega (arith, c .before .before .follow .ensures .vertex)
 
 count-from-index-requires : (t : ℕ) → count-from-lts.Need-index-requires (claims t) (count-from-at t) count-from.Post Inv-loop μ-loop
 count-from-index-requires t c κs = search needs
 
 count-from-element-copy-out-index-2 : (t : ℕ) → count-from-lts.Need-element-copy-out-index-2 (claims t) (count-from-at t) count-from.Post Inv-loop μ-loop
-count-from-element-copy-out-index-2 t c = omega (arith, c .before .before .follow .ensures .vertex)
+count-from-element-copy-out-index-2 t c =
+    let at-follow = c .before .before .before .before in
+    omega (arith, at-follow .follow .ensures .vertex)
 
 count-from-index-requires-2 : (t : ℕ) → count-from-lts.Need-index-requires-2 (claims t) (count-from-at t) count-from.Post Inv-loop μ-loop
 count-from-index-requires-2 t c κs = search needs
 
 count-from-loop-holds : (t : ℕ) → count-from-lts.Need-loop-holds (claims t) (count-from-at t) count-from.Post Inv-loop μ-loop
 count-from-loop-holds t c =
-    let at-follow = c .before .before .before .before in
-    let asked = at-follow .before .pre .1 in
-    let led = at-follow .follow .ensures in
-    counting-none (asked .0) (at-follow .follow .result .v) (at-follow .follow .result .r) (at-follow .before .args .cap) (c .before .before .index .result) (c .index2 .result)
-    (led .vertex) (led .some) (asked .1 .2) (c .before .before .index .ensures) (c .index2 .ensures)
+    let at-index = c .before .before in
+    let at-follow = at-index .before .before .before .before in
+    let at-pre = at-follow .before in
+    let asked = at-pre .pre .1 in
+    let led = at-follow .follow in
+    counting-none (asked .0) (led .result .v .0) (led .result .r .0) (at-pre .args .cap) (at-index .index .result) (c .index2 .result)
+    (led .ensures .vertex) (led .ensures .some) (asked .1 .2) (at-index .index .ensures) (c .index2 .ensures)
 
-count-from-mul-separation : (t : ℕ) → count-from-lts.Need-mul-separation (claims t) (count-from-at t) count-from.Post Inv-loop μ-loop
-count-from-mul-separation t c = omega (arith, c .before .loop .inv .turn .few)
+count-from-mul-t23 : (t : ℕ) → count-from-lts.Need-mul-t23 (claims t) (count-from-at t) count-from.Post Inv-loop μ-loop
+count-from-mul-t23 t c = omega (arith, c .before .loop .inv .turn .few)
 
-count-from-element-copy-out-separation : (t : ℕ) → count-from-lts.Need-element-copy-out-separation (claims t) (count-from-at t) count-from.Post Inv-loop μ-loop
-count-from-element-copy-out-separation t c = omega (arith, c .before .loop .inv .turn .few)
-
-count-from-separation-requires : (t : ℕ) → count-from-lts.Need-separation-requires (claims t) (count-from-at t) count-from.Post Inv-loop μ-loop
-count-from-separation-requires t c κs = search needs
+count-from-element-copy-out-t26 : (t : ℕ) → count-from-lts.Need-element-copy-out-t26 (claims t) (count-from-at t) count-from.Post Inv-loop μ-loop
+count-from-element-copy-out-t26 t c = omega (arith, c .before .loop .inv .turn .few)
 
 count-from-add-k : (t : ℕ) → count-from-lts.Need-add-k (claims t) (count-from-at t) count-from.Post Inv-loop μ-loop
-count-from-add-k t c = omega (arith, c .before .before .before .before .loop .inv .turn .few)
+count-from-add-k t c = omega (arith, c .before .before .before .before .before .loop .inv .turn .few)
 
 count-from-loop-less : (t : ℕ) → count-from-lts.Need-loop-less (claims t) (count-from-at t) count-from.Post Inv-loop μ-loop
 count-from-loop-less t c = omega arith
 
 count-from-loop-again : (t : ℕ) → count-from-lts.Need-loop-again (claims t) (count-from-at t) count-from.Post Inv-loop μ-loop
-count-from-loop-again t c = let s = c .before .separation .ensures in counting-skip (c .before .before .before .before .loop .inv) (c .before .before .before .loop-test .taken) (omega arith)
+count-from-loop-again t c =
+    let at-loop-test = c .before .before .before .before in
+    let at-loop = at-loop-test .before in
+    counting-skip (at-loop .loop .inv) (at-loop-test .loop-test .taken) (omega arith)
 
-count-from-element-copy-out-index-3 : (t : ℕ) → count-from-lts.Need-element-copy-out-index-3 (claims t) (count-from-at t) count-from.Post Inv-loop μ-loop
-count-from-element-copy-out-index-3 t c = omega (arith, c .before .before .before .before .loop .inv .turn .few)
+count-from-element-copy-out-t29 : (t : ℕ) → count-from-lts.Need-element-copy-out-t29 (claims t) (count-from-at t) count-from.Post Inv-loop μ-loop
+count-from-element-copy-out-t29 t c = omega (arith, c .before .before .before .before .before .loop .inv .turn .few)
 
-count-from-index-requires-3 : (t : ℕ) → count-from-lts.Need-index-requires-3 (claims t) (count-from-at t) count-from.Post Inv-loop μ-loop
-count-from-index-requires-3 t c κs = search needs
+count-from-sub-t26 : (t : ℕ) → count-from-lts.Need-sub-t26 (claims t) (count-from-at t) count-from.Post Inv-loop μ-loop
+count-from-sub-t26 t c = omega arith
 
 count-from-sub-count-from : (t : ℕ) → count-from-lts.Need-sub-count-from (claims t) (count-from-at t) count-from.Post Inv-loop μ-loop
-count-from-sub-count-from t c = omega arith
-
-count-from-sub-count-from-2 : (t : ℕ) → count-from-lts.Need-sub-count-from-2 (claims t) (count-from-at t) count-from.Post Inv-loop μ-loop
-count-from-sub-count-from-2 t c = omega (arith, c .before .before .before .before .before .before .loop .inv .below)
+count-from-sub-count-from t c = omega (arith, c .before .before .before .before .before .before .before .before .loop .inv .below)
 
 count-from-count-from-requires : (t : ℕ) → count-from-lts.Need-count-from-requires (claims t) (count-from-at t) count-from.Post Inv-loop μ-loop
 count-from-count-from-requires t c κs =
-    let at-loop = c .before .before .before .before .before .before in
-    let asked = at-loop .before .before .before .before .before .before .pre .1 in
-    let w = edge-on (asked .0) (at-loop .loop .inv .turn) (c .before .before .before .before .before .loop-test .taken) in
+    let at-loop-test = c .before .before .before .before .before .before .before in
+    let at-loop = at-loop-test .before in
+    let at-follow = at-loop .before .before .before .before .before .before .before in
+    let at-pre = at-follow .before in
+    let asked = at-pre .pre .1 in
+    let w = edge-on (asked .0) (at-loop .loop .inv .turn) (at-loop-test .loop-test .taken) in
     let below = at-loop .loop .inv .below in
-    let led = at-loop .before .before .before .before .before .follow .ensures .fewer in
-    let s = c .before .before .before .separation .ensures in
-    let j = c .index3 .ensures in
+    let led = at-follow .follow .ensures .fewer in
     (omega arith, (asked .0, (omega arith, omega arith, omega arith, omega arith)))
 
 count-from-add-sum : (t : ℕ) → count-from-lts.Need-add-sum (claims t) (count-from-at t) count-from.Post Inv-loop μ-loop
-count-from-add-sum t c = let below = c .before .before .before .before .before .before .before .loop .inv .below in omega (arith, c .count-from .ensures)
+count-from-add-sum t c =
+    let at-loop = c .before .before .before .before .before .before .before .before .before in
+    let below = at-loop .loop .inv .below in omega (arith, c .count-from .ensures)
 
 count-from-returns : (t : ℕ) → count-from-lts.Need-returns (claims t) (count-from-at t) count-from.Post Inv-loop μ-loop
 count-from-returns t c =
-    let at-edge = c .before .before in
-    let at-separation = at-edge .before .before .before in
-    let at-loop = at-separation .before .before .before in
-    counting-full (at-loop .loop .inv) (at-edge .index3 .result) (at-separation .separation .result) (c .before .count-from .result) (at-edge .index3 .ensures)
-    (at-separation .separation .ensures .0) (at-separation .before .before .loop-test .taken) (omega arith) (c .before .count-from .ensures) (at-loop .before .before .before .before .before .before .pre .1 .0)
-    (at-loop .before .before .before .before .before .follow .ensures) (c .if2 .taken)
+    let at-if1 = c .before .before .before .before .before in
+    let at-loop-test = at-if1 .before .before .before .before in
+    let at-loop = at-loop-test .before in
+    let at-follow = at-loop .before .before .before .before .before .before .before in
+    let at-pre = at-follow .before in
+    let over = at-if1 .if1 .left in
+    counting-full (at-loop .loop .inv) (c .before .count-from .result) (at-loop-test .loop-test .taken) (omega arith) (c .before .count-from .ensures)
+    (at-pre .pre .1 .0) (at-follow .follow .ensures) (c .if2 .taken)
 
 count-from-add-k-2 : (t : ℕ) → count-from-lts.Need-add-k-2 (claims t) (count-from-at t) count-from.Post Inv-loop μ-loop
-count-from-add-k-2 t c = omega (arith, c .before .before .before .before .before .before .before .before .loop .inv .turn .few)
+count-from-add-k-2 t c = omega (arith, c .before .before .before .before .before .before .before .before .before .before .loop .inv .turn .few)
 
 count-from-loop-less-2 : (t : ℕ) → count-from-lts.Need-loop-less-2 (claims t) (count-from-at t) count-from.Post Inv-loop μ-loop
 count-from-loop-less-2 t c = omega arith
 
 count-from-loop-again-2 : (t : ℕ) → count-from-lts.Need-loop-again-2 (claims t) (count-from-at t) count-from.Post Inv-loop μ-loop
 count-from-loop-again-2 t c =
-    let at-edge = c .before .before in
-    let at-separation = at-edge .before .before .before in
-    let at-loop = at-separation .before .before .before in
-    counting-on (at-loop .loop .inv) (at-edge .index3 .result) (at-separation .separation .result) (c .before .count-from .result) (at-edge .index3 .ensures)
-    (at-separation .separation .ensures .0) (at-separation .before .before .loop-test .taken) (omega arith) (c .before .count-from .ensures) (c .if2 .left)
+    let at-if1 = c .before .before .before .before .before in
+    let at-loop-test = at-if1 .before .before .before .before in
+    let at-loop = at-loop-test .before in
+    let over = at-if1 .if1 .left in
+    counting-on (at-loop .loop .inv) (c .before .count-from .result) (at-loop-test .loop-test .taken) (omega arith) (c .before .count-from .ensures)
+    (c .if2 .left)
 
 count-from-returns-2 : (t : ℕ) → count-from-lts.Need-returns-2 (claims t) (count-from-at t) count-from.Post Inv-loop μ-loop
 count-from-returns-2 t c =
     let at-loop = c .before .before in
-    counted-none (at-loop .loop .inv) (at-loop .before .before .before .before .before .before .pre .1 .0) (c .before .loop-test .left) (at-loop .before .before .before .before .before .follow .ensures) (c .if3 .taken)
+    let at-follow = at-loop .before .before .before .before .before .before .before in
+    let at-pre = at-follow .before in
+    counted-none (at-loop .loop .inv) (at-pre .pre .1 .0) (c .before .loop-test .left) (at-follow .follow .ensures) (c .if3 .taken)
 
 count-from-returns-3 : (t : ℕ) → count-from-lts.Need-returns-3 (claims t) (count-from-at t) count-from.Post Inv-loop μ-loop
 count-from-returns-3 t c =
     let at-loop = c .before .before in
-    counted-some (at-loop .loop .inv) (at-loop .before .before .before .before .before .before .pre .1 .0) (c .before .loop-test .left) (at-loop .before .before .before .before .before .follow .ensures) (c .if3 .left)
+    let at-follow = at-loop .before .before .before .before .before .before .before in
+    let at-pre = at-follow .before in
+    counted-some (at-loop .loop .inv) (at-pre .pre .1 .0) (c .before .loop-test .left) (at-follow .follow .ensures) (c .if3 .left)
 
 pub +count-from-spec : {M : Type 1} → statement M
 +count-from-spec = close μ-count-from λ t. count-from-lts.spec (claims t)
@@ -143,22 +156,21 @@ pub +count-from-spec : {M : Type 1} → statement M
     Inv-loop
     μ-loop
     (count-from-follow-requires t)
+    (count-from-cast-u t)
     (count-from-add-index t)
     (count-from-element-copy-out-index t)
     (count-from-index-requires t)
     (count-from-element-copy-out-index-2 t)
     (count-from-index-requires-2 t)
     (count-from-loop-holds t)
-    (count-from-mul-separation t)
-    (count-from-element-copy-out-separation t)
-    (count-from-separation-requires t)
+    (count-from-mul-t23 t)
+    (count-from-element-copy-out-t26 t)
     (count-from-add-k t)
     (count-from-loop-less t)
     (count-from-loop-again t)
-    (count-from-element-copy-out-index-3 t)
-    (count-from-index-requires-3 t)
+    (count-from-element-copy-out-t29 t)
+    (count-from-sub-t26 t)
     (count-from-sub-count-from t)
-    (count-from-sub-count-from-2 t)
     (count-from-count-from-requires t)
     (count-from-add-sum t)
     (count-from-returns t)

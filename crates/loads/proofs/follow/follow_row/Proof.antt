@@ -2,40 +2,50 @@ use Prim.Native.Nat.{_-_}
 use native.Mathlib.Omega.{arith}
 use borrow.Author.Needs.{needs}
 use Rattle.ways.proofs.Turns.{Turn, turn-first, edge-on}
+use Rattle.loads.specs.Rows.{loadsIn}
 use Rattle.loads.specs.Follow.{FollowedRow}
 use Rattle.loads.proofs.FollowingRows.{led-none, led-on}
 use Rattle.loads.proofs.follow.follow_row.Statement.{statement}
 use Rattle.loads.proofs.follow.follow_row.Tie as tie
 
 abbrev Inv-loop : tie.InvT-loop
-Inv-loop row₀ d e start to p v span below u₀ at₀ total₀ row u at total = FollowedRow e start to p d v span below row₀ u at total row
+Inv-loop row₀ d e start to p below u₀ at₀ total₀ row u at total =
+    FollowedRow e start to p (d .0) (u₀ .0) (at₀ .0) total₀ (loadsIn row₀) (u .0) (at .0) total (loadsIn row)
 
 abbrev μ-loop : tie.MeasureT-loop
-μ-loop row₀ d e start to p v span below u₀ at₀ total₀ row u at total = d - at
+μ-loop row₀ d e start to p below u₀ at₀ total₀ row u at total = d .0 - at .0
 
 -- the edges out of u
-turn : (c : tie.After-index2 Inv-loop μ-loop) → Turn (c .before .before .before .before .before .args .start .now) (c .before .before .before .before .loop .u) (c .index2 .result) (c .before .before .index .result)
+turn : (c : tie.After-index2 Inv-loop μ-loop)
+    → let at-loop = c .before .before .before .before .before in
+    Turn (at-loop .before .args .start .now) (at-loop .loop .u .0) (c .index2 .result) (c .before .before .index .result)
 turn c =
-    let at-loop = c .before .before .before .before in
-    turn-first (at-loop .before .pre .0) (at-loop .loop .u) (c .index2 .result) (c .before .before .index .result) (at-loop .loop .inv .vertex) (c .index2 .ensures) (c .before .before .index .ensures)
+    let at-index = c .before .before in
+    let at-loop = at-index .before .before .before in
+    turn-first (at-loop .before .pre .0) (at-loop .loop .u .0) (c .index2 .result) (at-index .index .result) (at-loop .loop .inv .vertex)
+    (c .index2 .ensures) (at-index .index .ensures)
 
 loop-holds : tie.Need-loop-holds Inv-loop μ-loop
 loop-holds c =
     let s = c .args in
     let asked = c .pre .1 in
-    led-none (s .e .now) (s .start .now) (s .to .now) (s .p .now) (s .d) (s .v) (s .span) (s .below) (s .row .now) (asked .0) (asked .1) (asked .3) (asked .4)
+    led-none (s .e .now) (s .start .now) (s .to .now) (s .p .now) (s .d .0) (s .v .0) (s .span .0) (s .below) (loadsIn (s .row .now)) (asked .0)
+    (asked .1) (asked .3) (asked .4)
+
+cast-w : tie.Need-cast-w Inv-loop μ-loop
+cast-w c = search needs
 
 element-copy-out-index : tie.Need-element-copy-out-index Inv-loop μ-loop
-element-copy-out-index c = omega (arith, c .loop .inv .vertex)
+element-copy-out-index c = omega (arith, c .before .loop .inv .vertex)
 
 index-requires : tie.Need-index-requires Inv-loop μ-loop
 index-requires c κs = search needs
 
 add-index : tie.Need-add-index Inv-loop μ-loop
-add-index c = omega (arith, c .before .before .loop .inv .vertex)
+add-index c = omega (arith, c .before .before .before .loop .inv .vertex)
 
 element-copy-out-index-2 : tie.Need-element-copy-out-index-2 Inv-loop μ-loop
-element-copy-out-index-2 c = omega (arith, c .before .before .loop .inv .vertex)
+element-copy-out-index-2 c = omega (arith, c .before .before .before .loop .inv .vertex)
 
 index-requires-2 : tie.Need-index-requires-2 Inv-loop μ-loop
 index-requires-2 c κs = search needs
@@ -44,60 +54,78 @@ add-if1 : tie.Need-add-if1 Inv-loop μ-loop
 add-if1 c = omega (arith, turn c .few, turn c .high)
 
 returns : tie.Need-returns Inv-loop μ-loop
-returns c = c .before .before .before .before .before .loop .inv
+returns c = c .before .before .before .before .before .before .loop .inv
 
-mul-separation : tie.Need-mul-separation Inv-loop μ-loop
-mul-separation c = omega (arith, turn (c .before) .few)
+mul-if2 : tie.Need-mul-if2 Inv-loop μ-loop
+mul-if2 c = omega (arith, turn (c .before) .few)
 
-element-copy-out-separation : tie.Need-element-copy-out-separation Inv-loop μ-loop
-element-copy-out-separation c = omega (arith, turn (c .before) .few)
+element-copy-out-if2 : tie.Need-element-copy-out-if2 Inv-loop μ-loop
+element-copy-out-if2 c = omega (arith, turn (c .before) .few)
 
-separation-requires : tie.Need-separation-requires Inv-loop μ-loop
-separation-requires c κs = search needs
-
-add-next : tie.Need-add-next Inv-loop μ-loop
-add-next c = omega (arith, c .before .before .before .before .before .before .before .loop .inv .room)
+sub-if2 : tie.Need-sub-if2 Inv-loop μ-loop
+sub-if2 c = omega (arith, c .before .before .before .before .before .before .before .before .before .loop .inv .room)
 
 returns-2 : tie.Need-returns-2 Inv-loop μ-loop
-returns-2 c = c .before .before .before .before .before .before .before .before .loop .inv
+returns-2 c = c .before .before .before .before .before .before .before .before .before .before .before .loop .inv
+
+add-execution : tie.Need-add-execution Inv-loop μ-loop
+add-execution c =
+    let at-loop = c .before .before .before .before .before .before .before .before .before .before .before .before .before in
+    let r = at-loop .loop .inv .room in omega arith
 
 mul-execution : tie.Need-mul-execution Inv-loop μ-loop
-mul-execution c = omega (arith, c .before .before .before .before .before .before .before .before .loop .inv .vertex)
+mul-execution c =
+    let at-loop = c .before .before .before .before .before .before .before .before .before .before .before .before .before in
+    omega (arith, at-loop .loop .inv .vertex)
 
 element-copy-out-execution : tie.Need-element-copy-out-execution Inv-loop μ-loop
-element-copy-out-execution c = omega (arith, c .before .before .before .before .before .before .before .before .loop .inv .vertex)
+element-copy-out-execution c =
+    let at-loop = c .before .before .before .before .before .before .before .before .before .before .before .before .before in
+    omega (arith, at-loop .loop .inv .vertex)
 
 execution-requires : tie.Need-execution-requires Inv-loop μ-loop
 execution-requires c κs = search needs
 
 add-total : tie.Need-add-total Inv-loop μ-loop
-add-total c = let r = c .before .before .before .before .before .before .before .before .before .before .loop .inv .room in omega (arith, c .before .before .before .before .before .before .before .before .before .before .loop .inv .light, c .execution .ensures .1)
+add-total c =
+    let at-loop = c .before .before .before .before .before .before .before .before .before .before .before .before .before .before .before in
+    let r = at-loop .loop .inv .room in omega (arith, at-loop .loop .inv .light, c .execution .ensures .1)
 
 fill-run-requires : tie.Need-fill-run-requires Inv-loop μ-loop
-fill-run-requires c κs = (omega arith, omega arith)
+fill-run-requires c κs =
+    let at-loop = c .before .before .before .before .before .before .before .before .before .before .before .before .before .before .before .before in
+    let r = at-loop .loop .inv .room in (omega arith, omega arith)
 
-element-copy-out-index-3 : tie.Need-element-copy-out-index-3 Inv-loop μ-loop
-element-copy-out-index-3 c = omega (arith, turn (c .before .before .before .before .before .before .before .before) .few)
-
-index-requires-3 : tie.Need-index-requires-3 Inv-loop μ-loop
-index-requires-3 c κs = search needs
+element-copy-out-t19 : tie.Need-element-copy-out-t19 Inv-loop μ-loop
+element-copy-out-t19 c = omega (arith, turn (c .before .before .before .before .before .before .before .before .before .before .before .before) .few)
 
 loop-less : tie.Need-loop-less Inv-loop μ-loop
 loop-less c =
-    let w = edge-on (c .before .before .before .before .before .before .before .before .before .before .before .before .before .before .before .pre .0) (turn (c .before .before .before .before .before .before .before .before .before .before)) (omega arith) in
-    let s = c .before .before .before .before .before .before .before .separation .ensures in
+    let at-if2 = c .before .before .before .before .before .before .before in
+    let at-if1 = at-if2 .before .before .before .before .before in
+    let at-place = at-if1 .before in
+    let at-loop = at-place .before .before .before .before .before in
+    let at-pre = at-loop .before in
+    let w = edge-on (at-pre .pre .0) (turn (at-place)) (omega (arith, at-if1 .if1 .left)) in
+    let r = at-loop .loop .inv .room in
+    let over = at-if2 .if2 .left in
     omega arith
 
 loop-again : tie.Need-loop-again Inv-loop μ-loop
 loop-again c =
-    let at-execution = c .before .before .before .before in
-    let at-separation = at-execution .before .before .before in
-    let at-index = at-separation .before .before .before in
-    let at-loop = at-index .before .before .before .before in
-    let asked = at-loop .before .pre in
-    led-on (asked .0) (at-loop .loop .inv) (turn at-index) (at-index .before .before .index .ensures) (at-separation .before .before .if1 .left) (asked .1 .2)
-    (at-separation .separation .result) (c .index3 .result) (at-execution .execution .result) (at-separation .separation .ensures .0) (c .index3 .ensures)
-    (at-execution .execution .ensures .0) (at-execution .execution .ensures .1) (omega arith) (c .before .before .fill-run .last .0) (c .before .before .fill-run .ensures)
+    let at-execution = c .before .before .before in
+    let at-if2 = at-execution .before .before .before .before in
+    let at-if1 = at-if2 .before .before .before .before .before in
+    let at-place = at-if1 .before in
+    let at-index = at-place .before .before in
+    let at-loop = at-index .before .before .before in
+    let at-pre = at-loop .before in
+    let asked = at-pre .pre in
+    let r = at-loop .loop .inv .room in
+    let over = at-if2 .if2 .left in
+    led-on (asked .0) (at-loop .loop .inv) (turn (at-place)) (at-index .index .ensures) (at-if1 .if1 .left) (asked .1 .2)
+    (at-execution .execution .result) (at-execution .execution .ensures .0) (at-execution .execution .ensures .1) (omega arith)
+    (loadsIn (c .before .fill-run .last .0)) (c .before .fill-run .ensures)
 
 pub follow-row-spec : {M : Type 1} → statement M
 follow-row-spec =
@@ -106,6 +134,7 @@ follow-row-spec =
     Inv-loop
     μ-loop
     loop-holds
+    cast-w
     element-copy-out-index
     index-requires
     add-index
@@ -113,17 +142,16 @@ follow-row-spec =
     index-requires-2
     add-if1
     returns
-    mul-separation
-    element-copy-out-separation
-    separation-requires
-    add-next
+    mul-if2
+    element-copy-out-if2
+    sub-if2
     returns-2
+    add-execution
     mul-execution
     element-copy-out-execution
     execution-requires
     add-total
     fill-run-requires
-    element-copy-out-index-3
-    index-requires-3
+    element-copy-out-t19
     loop-less
     loop-again)

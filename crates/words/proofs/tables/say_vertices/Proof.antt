@@ -1,69 +1,90 @@
-use mathlib.Core.Path.{_≡_}
-use Prim.Native.Nat.{_-_, _≤_}
+use native.Mathlib.Omega.{arith}
+use mathlib.Core.Path.{refl}
 use lib.ListN.{length}
 use borrow.Author.Needs.{needs}
+use Rattle.table.specs.Inner.{tableOf}
+use Rattle.counts.specs.Place.{meantPlace}
+use Rattle.judge.proofs.Remaining.{remaining}
+use Rattle.judge.proofs.SoFar.{so-far-within, so-far-after, so-far-few, so-far-fewer}
+use Rattle.words.proofs.Saying.{Saying, saying-none, saying-more, saying-all}
 use Rattle.words.proofs.tables.say_vertices.Statement.{statement}
 use Rattle.words.proofs.tables.say_vertices.Tie as tie
 
 abbrev Inv-loop : tie.InvT-loop
-Inv-loop text k work₀ witness₀ table own task all₀ v₀ work witness all v = (v ≤ 12) × (length work ≡ length work₀) × (length witness ≡ length witness₀)
+Inv-loop text table work₀ witness₀ counts₀ at₀ work witness counts at = Saying text table work witness counts (meantPlace at)
 
 abbrev μ-loop : tie.MeasureT-loop
-μ-loop text k work₀ witness₀ table own task all₀ v₀ work witness all v = 12 - v
+μ-loop text table work₀ witness₀ counts₀ at₀ work witness counts at = length (remaining (tableOf table) (meantPlace at))
+
+no-counts-requires : tie.Need-no-counts-requires Inv-loop μ-loop
+no-counts-requires c κs = search needs
+
+first-place-requires : tie.Need-first-place-requires Inv-loop μ-loop
+first-place-requires c κs = search needs
+
+loop-holds : tie.Need-loop-holds Inv-loop μ-loop
+loop-holds c = saying-none (c .before .before .before .pre) refl refl (c .before .no-counts .ensures) (c .first-place .ensures)
+
+cast-if1 : tie.Need-cast-if1 Inv-loop μ-loop
+cast-if1 c = search needs
+
+cast-own : tie.Need-cast-own Inv-loop μ-loop
+cast-own c = search needs
 
 mul-own : tie.Need-mul-own Inv-loop μ-loop
 mul-own c = search needs
 
 element-copy-out-own : tie.Need-element-copy-out-own Inv-loop μ-loop
-element-copy-out-own c = search needs
+element-copy-out-own c =
+    let test = c .before .before .before in
+    omega (arith, so-far-within (test .before .before .loop .inv .so-far) (test .if1 .taken) .task)
 
-cast-t19 : tie.Need-cast-t19 Inv-loop μ-loop
-cast-t19 c = search needs
-
-loop-holds : tie.Need-loop-holds Inv-loop μ-loop
-loop-holds c = search needs
-
-same-length : tie.Need-same-length Inv-loop μ-loop
-same-length c = search needs
-
-same-length-2 : tie.Need-same-length-2 Inv-loop μ-loop
-same-length-2 c = search needs
-
-returns : tie.Need-returns Inv-loop μ-loop
-returns c = search needs
+cast-job : tie.Need-cast-job Inv-loop μ-loop
+cast-job c = search needs
 
 mul-job : tie.Need-mul-job Inv-loop μ-loop
 mul-job c = search needs
 
 element-copy-out-job : tie.Need-element-copy-out-job Inv-loop μ-loop
-element-copy-out-job c = search needs
+element-copy-out-job c =
+    let test = c .before .before .before .before .before in
+    omega (arith, so-far-within (test .before .before .loop .inv .so-far) (test .if1 .taken) .vertex)
 
-cast-t25 : tie.Need-cast-t25 Inv-loop μ-loop
-cast-t25 c = search needs
+slice-aggregate-say-vertex : tie.Need-slice-aggregate-say-vertex Inv-loop μ-loop
+slice-aggregate-say-vertex c = search needs
+
+slice-aggregate-say-vertex-2 : tie.Need-slice-aggregate-say-vertex-2 Inv-loop μ-loop
+slice-aggregate-say-vertex-2 c = search needs
 
 say-vertex-requires : tie.Need-say-vertex-requires Inv-loop μ-loop
 say-vertex-requires c κs = search needs
 
 counted-requires : tie.Need-counted-requires Inv-loop μ-loop
-counted-requires c κs = search needs
+counted-requires c κs =
+    let test = c .before .before .before .before .before .before .before .before .before .before .before in
+    so-far-few (test .before .before .loop .inv .so-far) (test .if1 .taken)
 
-add-v : tie.Need-add-v Inv-loop μ-loop
-add-v c = search needs
+next-place-requires : tie.Need-next-place-requires Inv-loop μ-loop
+next-place-requires c κs =
+    let test = c .before .before .before .before .before .before .before .before .before .before .before .before in
+    so-far-within (test .before .before .loop .inv .so-far) (test .if1 .taken)
 
 loop-less : tie.Need-loop-less Inv-loop μ-loop
-loop-less c = search needs
+loop-less c =
+    let test = c .before .before .before .before .before .before .before .before .before .before .before .before .before in
+    let here = test .before .before .loop .inv .so-far in
+    so-far-fewer here (test .if1 .taken) (so-far-after here (test .if1 .taken) (c .next-place .ensures))
 
 loop-again : tie.Need-loop-again Inv-loop μ-loop
-loop-again c = search needs
+loop-again c =
+    let said = c .before .before .before .before in
+    let test = said .before .before .before .before .before .before .before .before .before in
+    let here = test .before .before .loop .inv in
+    saying-more here (test .if1 .taken) (said .say-vertex .ensures) (search needs) (search needs) (c .before .counted .ensures)
+    (so-far-after (here .so-far) (test .if1 .taken) (c .next-place .ensures))
 
-same-length-3 : tie.Need-same-length-3 Inv-loop μ-loop
-same-length-3 c = search needs
-
-same-length-4 : tie.Need-same-length-4 Inv-loop μ-loop
-same-length-4 c = search needs
-
-returns-2 : tie.Need-returns-2 Inv-loop μ-loop
-returns-2 c = search needs
+returns : tie.Need-returns Inv-loop μ-loop
+returns c = saying-all (c .before .before .loop .inv) (c .if1 .left)
 
 pub say-vertices-spec : {M : Type 1} → statement M
 say-vertices-spec =
@@ -71,21 +92,21 @@ say-vertices-spec =
     (tie.spec
     Inv-loop
     μ-loop
+    no-counts-requires
+    first-place-requires
+    loop-holds
+    cast-if1
+    cast-own
     mul-own
     element-copy-out-own
-    cast-t19
-    loop-holds
-    same-length
-    same-length-2
-    returns
+    cast-job
     mul-job
     element-copy-out-job
-    cast-t25
+    slice-aggregate-say-vertex
+    slice-aggregate-say-vertex-2
     say-vertex-requires
     counted-requires
-    add-v
+    next-place-requires
     loop-less
     loop-again
-    same-length-3
-    same-length-4
-    returns-2)
+    returns)

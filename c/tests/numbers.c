@@ -1,0 +1,132 @@
+/* The numbers at the border, as document 01 has them: "no such task or vertex" for every number that a table hasn't, however large; the refusals of 9 to
+ * 11 by their names; the packed answers taken apart. */
+#include "bench.h"
+#include "tectavirio.h"
+
+enum { WORK_CELLS = 25, WITNESS_CELLS = 6, WORK_MARK = 0x5a5a5a, WITNESS_MARK = 0x5a5a };
+
+static uint32_t work[WORK_CELLS];
+static uint16_t witness[WITNESS_CELLS];
+
+static void mark_areas(void) {
+    for (size_t i = 0; i < WORK_CELLS; i++) {
+        work[i] = WORK_MARK;
+    }
+    for (size_t i = 0; i < WITNESS_CELLS; i++) {
+        witness[i] = WITNESS_MARK;
+    }
+}
+
+/* So many work cells are zero, and no other cell is changed. */
+static void expect_areas(size_t zeros) {
+    for (size_t i = 0; i < WORK_CELLS; i++) {
+        expect("a work cell", work[i], i < zeros ? 0 : WORK_MARK);
+    }
+    for (size_t i = 0; i < WITNESS_CELLS; i++) {
+        expect("a witness cell", witness[i], WITNESS_MARK);
+    }
+}
+
+/* A vertex, judged with budget 1 on so many cells. */
+struct asked {
+    const char *text;
+    size_t length;
+    uint32_t task, vertex;
+    size_t work_cells, witness_cells;
+};
+
+/* "No refusal changes a lent area." */
+static void expect_refused(struct asked a, uint32_t refusal, uint32_t place) {
+    uint32_t is, at;
+    mark_areas();
+    uint8_t verdict = tectavirio_judge((const uint8_t *)a.text, a.length, a.task, a.vertex, 1, work, a.work_cells, witness, a.witness_cells, &is, &at);
+    expect("the verdict", verdict, TECTAVIRIO_REFUSED);
+    expect("the refusal", is, refusal);
+    expect("its place", at, place);
+    expect_areas(0);
+}
+
+/* R1 has the tasks 0 to 2, each with vertex 0 alone. The low bits of most of these numbers are those of a task or a vertex that it has. Without its last
+ * line, the tenth, it is refused by 6 whatever is asked for, at "last line plus one". */
+static void judge_beyond(void) {
+    static const uint32_t beyond[] = {3, 254, 255, 256, 257, 258, 65535, 65536, 65537, 16777216, 2147483648, 4294967040, 4294967295};
+    size_t length = sizeof R1 - 1, cut = length - 3;
+    for (size_t i = 0; i < sizeof beyond / sizeof *beyond; i++) {
+        uint32_t n = beyond[i], pairs[][2] = {{n, 0}, {0, n}, {n, n}};
+        for (size_t k = 0; k < 3; k++) {
+            expect_refused((struct asked){R1, length, pairs[k][0], pairs[k][1], WORK_CELLS, WITNESS_CELLS}, TECTAVIRIO_NO_SUCH_VERTEX, 0);
+            expect_refused((struct asked){R1, cut, pairs[k][0], pairs[k][1], WORK_CELLS, WITNESS_CELLS}, TECTAVIRIO_NO_END, 10);
+        }
+    }
+}
+
+/* R9: R7 "needs 25 work cells, 6 witness cells". */
+static void judge_short(void) {
+    static const char r7[] = "010301\n020003000a\n0200010002\n020004000a\n0301020002\n010100\n0200010005\n00\n";
+    expect_refused((struct asked){r7, sizeof r7 - 1, 1, 0, 24, 5}, TECTAVIRIO_WORK_TOO_SHORT, 25);
+    expect_refused((struct asked){r7, sizeof r7 - 1, 1, 0, 25, 5}, TECTAVIRIO_WITNESS_TOO_SHORT, 6);
+}
+
+/* R10: "four vertices, all 16 edges, p 10: 64 paths at horizon 21 [..]. An edgeless fifth vertex makes 65 at 21", here in task 1, under R1's first. */
+static void judge_crowded(void) {
+    static char text[512];
+    size_t length = (size_t)sprintf(text, "010101\n0200020005\n0300000005\n010510\n");
+    for (int v = 0; v < 5; v++) {
+        length += (size_t)sprintf(text + length, "020001000a\n");
+    }
+    for (int e = 0; e < 16; e++) {
+        length += (size_t)sprintf(text + length, "03%02x%02x000a\n", e / 4, e % 4);
+    }
+    length += (size_t)sprintf(text + length, "010100\n0200010015\n00\n");
+    expect_refused((struct asked){text, length, 2, 0, WORK_CELLS, WITNESS_CELLS}, TECTAVIRIO_TOO_MANY_PATHS, 1);
+}
+
+#define VERTEX "0200010001\n"
+
+/* Four tasks with 1, 2, 3 and 4 vertices, e 1, d 1, no edges: as many complete paths of one vertex each. With budget 1 and 8 work cells the first task's
+ * vertex meets; the second's miss after one group and need 1 cell; the third's have C = 2 and need 1 + 3 cells; the fourth's need 1 + 3 + 5. */
+static void take_counts(void) {
+    static const char text[] = "010100\n" VERTEX "010200\n" VERTEX VERTEX "010300\n" VERTEX VERTEX VERTEX "010400\n" VERTEX VERTEX VERTEX VERTEX "00\n";
+    mark_areas();
+    uint64_t judged = tectavirio_judge_table((const uint8_t *)text, sizeof text - 1, 1, work, 8);
+    expect("a readable text's refusal", tectavirio_judged_refusal(judged), 0);
+    expect("those that meet", tectavirio_judged_meeting(judged), 1);
+    expect("those that miss", tectavirio_judged_missing(judged), 2);
+    expect("those unfinished", tectavirio_judged_unfinishing(judged), 3);
+    expect("those refused", tectavirio_judged_refusing(judged), 4);
+    expect_areas(4);
+}
+
+/* The longest valid text: eight tasks with 12 vertices and 32 edges, and the end frame. A byte after it is 7, at the line after it. */
+static void take_refusals(void) {
+    static char text[3931 + 2];
+    size_t length = 0;
+    for (int task = 0; task < TECTAVIRIO_MOST_TASKS; task++) {
+        length += (size_t)sprintf(text + length, "010c20\n");
+        for (int v = 0; v < TECTAVIRIO_MOST_VERTICES; v++) {
+            length += (size_t)sprintf(text + length, VERTEX);
+        }
+        for (int e = 0; e < 32; e++) {
+            length += (size_t)sprintf(text + length, "03%02x%02x0001\n", e / TECTAVIRIO_MOST_VERTICES, e % TECTAVIRIO_MOST_VERTICES);
+        }
+    }
+    length += (size_t)sprintf(text + length, "00\n");
+    expect("the longest text's bytes", length, 3931);
+    expect("its check", tectavirio_text_check((const uint8_t *)text, length), 0);
+    text[length] = '\n';
+    uint32_t checked = tectavirio_text_check((const uint8_t *)text, length + 1);
+    uint64_t judged = tectavirio_judge_table((const uint8_t *)text, length + 1, 1, NULL, 0);
+    expect("the check's refusal", tectavirio_checked_refusal(checked), TECTAVIRIO_BYTES_AFTER_END);
+    expect("the check's line", tectavirio_checked_line(checked), 8 * (1 + 12 + 32) + 2);
+    expect("the table's refusal", tectavirio_judged_refusal(judged), TECTAVIRIO_BYTES_AFTER_END);
+    expect("the table's line", tectavirio_judged_line(judged), 8 * (1 + 12 + 32) + 2);
+}
+
+int main(void) {
+    judge_beyond();
+    judge_short();
+    judge_crowded();
+    take_counts();
+    take_refusals();
+    return wrong;
+}

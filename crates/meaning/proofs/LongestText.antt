@@ -1,0 +1,241 @@
+-- A readable text has exactly the bytes of its table's lines, and so at most as many as the longest; behind that one stands the last line that a refusal
+-- can name.
+use mathlib.Core.Path.{_≡_, refl, sym, ap, subst, _∙_}
+use Prim.Native.Nat.{ℕ, zero, suc, _+_, _-_, _*_, _/_, _%_, _≤_, min}
+use native.Mathlib.Nat.{add-assoc}
+use native.Mathlib.Omega.{arith}
+use mathlib.Core.Bool.{Bool, true, false, _&&_}
+use mathlib.Core.Option.{Option, none, some}
+use mathlib.Core.List.{List, [], _∷_, _++_, map, List·Memᴰ·head, List·Memᴰ·tail}
+use lib.ListN.{length, getD, replicate}
+use lib.Dec.{T, ltb, leb, eqb, leb→le, ltb→lt, eqb→eq}
+use Rattle.meaning.specs.Lists.{pick, sum, gather, below}
+use Rattle.meaning.specs.Bounds.{mostTasks, mostVertices, mostEdges, largestE, largestD, largestP, lineLength}
+use Rattle.meaning.specs.Table.{Vertex, Edge, Task, Table, vertex, edge, task, noVertex}
+use Rattle.meaning.specs.Text.{Line, lineFeed, intoFirst, linesOf, digitOf, byteWith, hexBytes, frameOf, isFrame, word}
+use Rattle.meaning.specs.Text.{Begun, begun, nothing, closed, Step, on, over, wrong, gate, within, taskFrame, vertexFrame, afterLast, edgeFrame, framed, stepAt, Reading, readable, unreadable, atEnd, readFrom, read}
+use Rattle.meaning.specs.Sound.{SoundTask, AllSound}
+use Rattle.meaning.specs.Desk.{line}
+use Rattle.meaning.specs.Texts.{taskLine, vertexLine, edgeLine, endLine, longestTask, longestText, taskLength, textLength, LongestText, lastLine, TextRefused}
+use Rattle.meaning.proofs.Lists.{both-left, both-right, length-snoc, map-append, sum-append}
+use Rattle.meaning.proofs.Readable.{readStep, step-read, read-sound, read-refused, gate-step, pick-step}
+
+-- ---- the bytes of a line
+
+-- those before the line feed, and the line feed
+abbrev lineBytes : Line → ℕ
+lineBytes l = length (l .bytes) + pick (l .fed) 1 0
+
+abbrev bytesIn : List Line → ℕ
+bytesIn ls = sum (map lineBytes ls)
+
+into-bytes : (b : ℕ) (ls : List Line) → bytesIn (intoFirst b ls) ≡ suc (bytesIn ls)
+into-bytes b [] = refl
+into-bytes b (l ∷ ls) = omega arith
+
+-- the lines of a text have all its bytes
+lines-bytes : (text : List ℕ) → bytesIn (linesOf text) ≡ length text
+lines-bytes [] = refl
+lines-bytes (b ∷ bs) = go (eqb b lineFeed) (lines-bytes bs)
+  where
+    go : (x : Bool) → bytesIn (linesOf bs) ≡ length bs
+        → bytesIn (pick x (record { bytes = []; fed = true } ∷ linesOf bs) (intoFirst b (linesOf bs))) ≡ suc (length bs)
+    go true ih = omega (arith, ih)
+    go false ih = into-bytes b (linesOf bs) ∙ ap suc ih
+
+-- n digits spell so many bytes
+abbrev Digits : ℕ → Option (List ℕ) → Type 0
+Digits n none = Unit {0}
+Digits n (some f) = n ≡ 2 * length f
+
+byte-digits : (h l : Option ℕ) (r : Option (List ℕ)) (n : ℕ) → Digits n r → Digits (suc (suc n)) (byteWith h l r)
+byte-digits (some h) (some l) (some f) n k = omega (arith, k)
+byte-digits (some h) (some l) none n k = tt
+byte-digits (some h) none r n k = tt
+byte-digits none l r n k = tt
+
+hex-digits : (ds : List ℕ) → Digits (length ds) (hexBytes ds)
+hex-digits [] = refl
+hex-digits (h ∷ []) = tt
+hex-digits (h ∷ l ∷ ds) = byte-digits (digitOf h) (digitOf l) (hexBytes ds) (length ds) (hex-digits ds)
+
+-- a line of m bytes has a frame of so many
+abbrev Fits : ℕ → Option (List ℕ) → Type 0
+Fits m none = Unit {0}
+Fits m (some f) = m ≡ lineLength (length f)
+
+line-fits : (o : Option (List ℕ)) (n : ℕ) → Digits n o → Fits (n + 1) o
+line-fits none n k = tt
+line-fits (some f) n k = omega (arith, k)
+
+frame-fits : (l : Line) → Fits (lineBytes l) (frameOf l)
+frame-fits l = go (l .fed) (ltb 1 (length (l .bytes)))
+  where
+    go : (x y : Bool) → Fits (length (l .bytes) + pick x 1 0) (pick (x && y) (hexBytes (l .bytes)) none)
+    go true true = line-fits (hexBytes (l .bytes)) (length (l .bytes)) (hex-digits (l .bytes))
+    go true false = tt
+    go false y = tt
+
+-- ---- the bytes before a line
+
+abbrev tasksLength : List Task → ℕ
+tasksLength ts = sum (map taskLength ts)
+
+-- b bytes were read before: the whole tasks' lines, then the open task's; it has a line of its own as soon as it has or wants a vertex
+record BytesSoFar (b : ℕ) (s : Begun) : Type 0 where
+  bytes : b ≡ tasksLength (s .tasks) + taskLine * min 1 (length (s .vertices) + s .wantV) + vertexLine * length (s .vertices) + edgeLine * length (s .edges)
+  -- no edge without a vertex
+  edges : min 1 (length (s .edges)) ≤ length (s .vertices)
+
+-- what a step keeps, with b bytes read when its line is
+abbrev Kept : ℕ → Step → Type 0
+Kept b (on s) = BytesSoFar b s
+Kept b (over ts) = b ≡ textLength ts
+Kept b (wrong k) = Unit {0}
+
+tasks-snoc : (ts : List Task) (k : Task) → tasksLength (ts ++ (k ∷ [])) ≡ tasksLength ts + taskLength k
+tasks-snoc ts k = ap sum (map-append taskLength ts (k ∷ [])) ∙ sum-append (map taskLength ts) (taskLength k ∷ []) ∙ omega arith
+
+closed-bytes : (ts : List Task) (vs : List Vertex) (es : List Edge) (b v e : ℕ) → v ≡ 0 → BytesSoFar b (begun ts (task vs es) v e)
+    → b ≡ tasksLength (closed (begun ts (task vs es) v e))
+closed-bytes ts [] es b v e w h = omega (arith, h .bytes, h .edges)
+closed-bytes ts (x ∷ vs) es b v e w h = omega (arith, h .bytes, tasks-snoc ts (task (x ∷ vs) es))
+
+frame-bytes : (k n : ℕ) (f : List ℕ) → T (isFrame k n f) → length f ≡ n
+frame-bytes k n f t = eqb→eq (length f) n (both-right (eqb (getD f 0 0) k) (eqb (length f) n) t)
+
+-- a step that is taken only for a frame of n bytes
+framed-as : (b k n : ℕ) (f : List ℕ) (x : Bool) → (T x → T (isFrame k n f)) → (r s : Step) → Kept (b + lineLength n) r
+    → Kept (b + lineLength (length f)) s → Kept (b + lineLength (length f)) (pick x r s)
+framed-as b k n f x i r s h =
+    pick-step (Kept (b + lineLength (length f))) x r s (λ t. subst (λ (m : ℕ). Kept (b + lineLength m) r) (sym (frame-bytes k n f (i t))) h)
+
+task-kept : (b : ℕ) (s : Begun) (v e : ℕ) → b ≡ tasksLength (closed s) → Kept (b + taskLine) (taskFrame s v e)
+task-kept b s v e h =
+    gate-step (Kept (b + taskLine)) (within 1 mostVertices v && leb e mostEdges) 3 (on (begun (closed s) (task [] []) v e)) tt
+    (λ t.
+    let r = both-left (within 1 mostVertices v) (leb e mostEdges) t in
+    let low = leb→le 1 v (both-left (leb 1 v) (leb v mostVertices) r) in
+    record { bytes = omega (arith, h, low); edges = omega arith })
+
+vertex-kept : (b : ℕ) (s : Begun) (e d : ℕ) → BytesSoFar b s → 1 ≤ s .wantV → Kept (b + vertexLine) (vertexFrame s e d)
+vertex-kept b s e d h w =
+    let x : Vertex = vertex e d in
+    let more = length-snoc (s .vertices) x in
+    gate-step (Kept (b + vertexLine)) (within 1 largestE e && within 1 largestD d) 3
+    (on (begun (s .tasks) (task (s .vertices ++ (x ∷ [])) (s .edges)) (s .wantV - 1) (s .wantE))) tt
+    (λ t. record { bytes = omega (arith, h .bytes); edges = omega (arith, h .edges) })
+
+edge-kept : (b : ℕ) (s : Begun) (f t p : ℕ) → BytesSoFar b s → s .wantV ≡ 0 → Kept (b + edgeLine) (edgeFrame s f t p)
+edge-kept b s f t p h w =
+    let x : Edge = edge f t p in
+    let more = length-snoc (s .edges) x in
+    let vs = s .vertices in
+    let end : Step = on (begun (s .tasks) (task vs (s .edges ++ (x ∷ []))) 0 (s .wantE - 1)) in
+    let from = ltb f (length vs) in
+    let to = ltb t (length vs) in
+    let b4 = leb (getD vs f noVertex .d) p in
+    let b5 = afterLast (s .edges) x in
+    gate-step (Kept (b + edgeLine)) (from && to && within 1 largestP p) 3 (gate b4 4 (gate b5 5 end)) tt
+    (λ u. gate-step (Kept (b + edgeLine)) b4 4 (gate b5 5 end) tt
+    (λ v. gate-step (Kept (b + edgeLine)) b5 5 end tt
+    (λ r.
+    let some = ltb→lt f (length vs) (both-left from to (both-left (from && to) (within 1 largestP p) u)) in
+    record { bytes = omega (arith, h .bytes); edges = omega arith })))
+
+framed-kept : (b : ℕ) (s : Begun) (v e : ℕ) (f : List ℕ) → BytesSoFar b s → s .wantV ≡ v → Kept (b + lineLength (length f)) (framed s v e f)
+framed-kept b s (suc v) e f h w =
+    framed-as b 2 5 f (isFrame 2 5 f) (λ t. t) (vertexFrame s (word f 1) (word f 3)) (wrong 2) (vertex-kept b s (word f 1) (word f 3) h (omega arith)) tt
+framed-kept b s zero (suc e) f h w =
+    framed-as b 3 5 f (isFrame 3 5 f) (λ t. t) (edgeFrame s (getD f 1 0) (getD f 2 0) (word f 3)) (wrong 2)
+    (edge-kept b s (getD f 1 0) (getD f 2 0) (word f 3) h w) tt
+framed-kept b s zero zero f h w =
+    let all = closed-bytes (s .tasks) (s .vertices) (s .edges) b (s .wantV) (s .wantE) w h in
+    let few = ltb (length (closed s)) mostTasks in
+    let some = ltb 0 (length (closed s)) in
+    framed-as b 1 3 f (isFrame 1 3 f && few) (both-left (isFrame 1 3 f) few) (taskFrame s (getD f 1 0) (getD f 2 0))
+    (pick (isFrame 0 1 f && some) (over (closed s)) (wrong 2)) (task-kept b s (getD f 1 0) (getD f 2 0) all)
+    (framed-as b 0 1 f (isFrame 0 1 f && some) (both-left (isFrame 0 1 f) some) (over (closed s)) (wrong 2) (ap (λ (n : ℕ). n + endLine) all) tt)
+
+step-kept : (b m : ℕ) (s : Begun) (o : Option (List ℕ)) → Fits m o → BytesSoFar b s → Kept (b + m) (stepAt s o)
+step-kept b m s none q h = tt
+step-kept b m s (some f) q h =
+    subst (λ (n : ℕ). Kept (b + n) (stepAt s (some f))) (sym q) (framed-kept b s (s .wantV) (s .wantE) f h refl)
+
+-- ---- all lines
+
+-- b bytes in all
+abbrev Bytes : ℕ → Reading → Type 0
+Bytes b (readable ts) = b ≡ textLength ts
+Bytes b (unreadable k n) = Unit {0}
+
+end-bytes : (ts : Table) (b n : ℕ) (ls : List Line) → b ≡ textLength ts → Bytes (b + bytesIn ls) (atEnd ts n ls)
+end-bytes ts b n [] h = omega (arith, h)
+end-bytes ts b n (l ∷ ls) h = tt
+
+from-bytes : (b : ℕ) (s : Begun) (n : ℕ) (ls : List Line) → BytesSoFar b s → Bytes (b + bytesIn ls) (readFrom s n ls)
+from-bytes b s n [] h = tt
+from-bytes b s n (l ∷ ls) h =
+    subst (λ (m : ℕ). Bytes m (readFrom s n (l ∷ ls))) (add-assoc b (lineBytes l) (bytesIn ls))
+    (subst (Bytes (b + lineBytes l + bytesIn ls)) (sym (step-read s n l ls))
+    (go (λ s′ k. from-bytes (b + lineBytes l) s′ (suc n) ls k) (stepAt s (frameOf l)) (step-kept b (lineBytes l) s (frameOf l) (frame-fits l) h)))
+  where
+    go : ((s′ : Begun) → BytesSoFar (b + lineBytes l) s′ → Bytes (b + lineBytes l + bytesIn ls) (readFrom s′ (suc n) ls))
+        → (r : Step) → Kept (b + lineBytes l) r → Bytes (b + lineBytes l + bytesIn ls) (readStep r n ls)
+    go ih (on s′) k = ih s′ k
+    go ih (over ts) k = end-bytes ts (b + lineBytes l) (suc n) ls k
+    go ih (wrong m) k = tt
+
+read-bytes : (text : List ℕ) → Bytes (length text) (read text)
+unfolding read
+read-bytes text =
+    subst (λ (m : ℕ). Bytes m (readFrom nothing 1 (linesOf text))) (omega (arith, lines-bytes text))
+    (from-bytes 0 nothing 1 (linesOf text) (record { bytes = refl; edges = omega arith }))
+
+pub text-length : (text : List ℕ) (ts : Table) → read text ≡ readable ts → length text ≡ textLength ts
+text-length text ts q = subst (Bytes (length text)) q (read-bytes text)
+
+-- ---- no longer than the longest
+
+task-short : (k : Task) → SoundTask k → taskLength k ≤ longestTask
+task-short k s = omega (arith, s .vertexCount, s .edgeCount)
+
+tasks-short : (ts : List Task) → AllSound ts → tasksLength ts ≤ longestTask * length ts
+tasks-short [] s = omega arith
+tasks-short (k ∷ ts) s = omega (arith, task-short k (s k (List·Memᴰ·head refl)), tasks-short ts (λ x m. s x (List·Memᴰ·tail m)))
+
+pub none-longer : (text : List ℕ) (ts : Table) → read text ≡ readable ts → length text ≤ longestText
+none-longer text ts q =
+    let s = read-sound text ts q in
+    omega (arith, text-length text ts q, tasks-short ts (s .eachTask), s .taskCount)
+
+-- ---- one so long: as many tasks, vertices and edges as there may be
+
+abbrev fullFrames : List (List ℕ)
+fullFrames =
+    (1 ∷ mostVertices ∷ mostEdges ∷ []) ∷ replicate mostVertices (2 ∷ 0 ∷ 1 ∷ 0 ∷ 1 ∷ [])
+    ++ map (λ (i : ℕ). 3 ∷ i / mostVertices ∷ i % mostVertices ∷ 0 ∷ 1 ∷ []) (below mostEdges)
+
+abbrev fullText : List ℕ
+fullText = gather (gather line) (replicate mostTasks fullFrames) ++ line (0 ∷ [])
+
+abbrev fullTable : Table
+fullTable =
+    replicate mostTasks
+    (task (replicate mostVertices (vertex 1 1)) (map (λ (i : ℕ). edge (i / mostVertices) (i % mostVertices) 1) (below mostEdges)))
+
+full-read : read fullText ≡ readable fullTable
+unfolding read
+full-read = refl
+
+pub longest-text : LongestText
+longest-text = record { number = refl; exactly = text-length; none-longer = none-longer; reached = (fullText, fullTable, full-read, refl) }
+
+-- ---- one more byte behind it
+
+full-refused : read (fullText ++ (lineFeed ∷ [])) ≡ unreadable 7 lastLine
+unfolding read
+full-refused = refl
+
+pub text-refused-at : TextRefused
+text-refused-at = record { number = refl; within = read-refused; reached = (fullText ++ (lineFeed ∷ []), 7, full-refused) }
