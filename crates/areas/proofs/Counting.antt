@@ -71,7 +71,8 @@ more-is d ns n h =
     ∙ ap (padded mostHigher 0) (ap (λ (k : ℕ). startsFrom d 0 ns ++ k * d ∷ []) (sym front) ∙ sym (starts-snoc d 0 ns n))
     ) in
     ap₂ (λ (c o : List ℕ). record { counts = c; roots = o; rows = rowsIn ns + rowsFor n }) (padded-more mostHigher 0 ns n h) roots
-    ∙ ap (λ (k : ℕ). record { counts = padded mostHigher 0 (ns ++ n ∷ []); roots = padded mostHigher 0 (startsFrom d 0 (ns ++ n ∷ [])); rows = k }) (sym (rows-snoc ns n))
+    ∙ ap (λ (k : ℕ). record { counts = padded mostHigher 0 (ns ++ n ∷ []); roots = padded mostHigher 0 (startsFrom d 0 (ns ++ n ∷ [])); rows = k })
+    (sym (rows-snoc ns n))
 
 -- no product of rows with a row's cells is too large
 pub cells-fit : (rows h d : ℕ) → rows ≤ rowsFor mostPaths * h → h < mostHigher → d ≤ largestD → rows * d ≤ rowsFor mostPaths * mostHigher * largestD

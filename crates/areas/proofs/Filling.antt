@@ -44,7 +44,8 @@ module _ (t : Task) (k : HeldTask t) (n d : ℕ) (e : n ≡ length (pathsOf (tas
     part cells = take from P ++ (cells ++ drop (from + stretchCells d n - from) (drop from P))
 
     pub fill-asks : n ≤ mostPaths → (0 < d) × (d ≤ largestD)
-        → HeldTask t × ((0 < d) × (d ≤ largestD) × (n ≤ mostCounted) × (0 < n) × (n ≡ length (pathsOf (taskOf t) d)) × (length (take (from + stretchCells d n - from) (drop from P)) ≡ stretchCells d n))
+        → HeldTask t × ((0 < d) × (d ≤ largestD) × (n ≤ mostCounted) × (0 < n) × (n ≡ length (pathsOf (taskOf t) d))
+        × (length (take (from + stretchCells d n - from) (drop from P)) ≡ stretchCells d n))
     fill-asks few (o, u) =
         let long : length (take (from + stretchCells d n - from) (drop from P)) ≡ stretchCells d n = (
         length-take-le (from + stretchCells d n - from) (drop from P) (omega (arith, length-drop from P)) ∙ omega arith
@@ -97,7 +98,8 @@ module _ (ks : List Meant.Task) (d : ℕ) (f : Few ks d) where
   need-is = stretches-size ks d (f .sound) ∙ ap (λ (n : ℕ). n * d) (sym (above-rows d ns seven))
 
   pub sofar-length : (j : ℕ) → length (stretches (take j ks) d) ≡ rowsIn (take j ns) * d
-  sofar-length j = stretches-size (take j ks) d (λ x i. f .sound x (mem-take j ks i)) ∙ ap (λ (ms : List ℕ). rowsIn ms * d) (sym (take-map (λ (x : Meant.Task). length (pathsOf x d)) j ks))
+  sofar-length j = stretches-size (take j ks) d (λ x i. f .sound x (mem-take j ks i))
+      ∙ ap (λ (ms : List ℕ). rowsIn ms * d) (sym (take-map (λ (x : Meant.Task). length (pathsOf x d)) j ks))
 
   module _ (j : ℕ) (m : j < length ks) where
     abbrev task : Meant.Task
@@ -121,7 +123,8 @@ module _ (ks : List Meant.Task) (d : ℕ) (f : Few ks d) where
         let paths : getD ns j 0 ≡ length (pathsOf task d) = getD-mapped (λ (x : Meant.Task). length (pathsOf x d)) 0 noTask ks j m in
         let root = above-root d ns seven j l in
         let to : getD (aboveOf d ns .roots) j 0 + stretchCells d (getD (aboveOf d ns .counts) j 0) ≡ rowsIn (take (j + 1) ns) * d = (
-        ap₂ (λ (u v : ℕ). u + rowsFor v * d) root count ∙ sym (add-mul (rowsIn (take j ns)) (rowsFor (getD ns j 0)) d) ∙ ap (λ (r : ℕ). r * d) (sym (rows-more ns j l))
+        ap₂ (λ (u v : ℕ). u + rowsFor v * d) root count ∙ sym (add-mul (rowsIn (take j ns)) (rowsFor (getD ns j 0)) d)
+        ∙ ap (λ (r : ℕ). r * d) (sym (rows-more ns j l))
         ) in
         record {
           some = omega (arith, count, paths, paths-some task task-sound d);

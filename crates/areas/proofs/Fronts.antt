@@ -28,7 +28,8 @@ writing-length {front} {before} {now} {t} w =
     let b = w .low in
     ap length (w .cells) ∙ length-append (take t front) (drop t before) ∙ omega (arith, length-take-le t front b, length-drop t before)
 
-pub writing-more : {front before now : List ℕ} {t : ℕ} (v : ℕ) → Writing front before now t → t < length front → v ≡ getD front t 0 → Writing front before (set now t v) (t + 1)
+pub writing-more : {front before now : List ℕ} {t : ℕ} (v : ℕ) → Writing front before now t
+    → t < length front → v ≡ getD front t 0 → Writing front before (set now t v) (t + 1)
 writing-more {front} {before} {now} {t} v w l e =
     let a = w .fits in
     record {
@@ -36,7 +37,8 @@ writing-more {front} {before} {now} {t} v w l e =
       low = omega arith;
       cells =
           ap (λ (z : List ℕ). set z t v) (w .cells) ∙ front-more (take t front) before t v (length-take-le t front (w .low)) (omega arith)
-          ∙ ap (λ (z : List ℕ). z ++ drop (t + 1) before) (ap (λ (n : ℕ). take t front ++ n ∷ []) e ∙ sym (take-suc front t 0 l) ∙ ap (λ (n : ℕ). take n front) (sym (add-one t)));
+          ∙ ap (λ (z : List ℕ). z ++ drop (t + 1) before)
+          (ap (λ (n : ℕ). take t front ++ n ∷ []) e ∙ sym (take-suc front t 0 l) ∙ ap (λ (n : ℕ). take n front) (sym (add-one t)));
     }
 
 pub writing-all : {front before now : List ℕ} {t : ℕ} → Writing front before now t → length front ≤ t → now ≡ written front before

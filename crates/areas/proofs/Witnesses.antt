@@ -32,7 +32,8 @@ record-cells : (w : Path) → pathCells (pathRecord w) ≡ pathCell w
 unfolding pathRecord
 record-cells w =
     let cells = padded largestD (vertexNumber 0) (map vertexNumber w) in
-    let front : take (length w) cells ≡ map vertexNumber w = ap (λ (n : ℕ). take n cells) (sym (length-map w vertexNumber)) ∙ take-padded largestD (vertexNumber 0) (map vertexNumber w) in
+    let front : take (length w) cells ≡ map vertexNumber w =
+    ap (λ (n : ℕ). take n cells) (sym (length-map w vertexNumber)) ∙ take-padded largestD (vertexNumber 0) (map vertexNumber w) in
     ap (λ (l : List ℕ). length w ∷ l) (ap (map (λ (v : VertexNumber). v .0)) front ∙ numbers-undone w)
 
 record-len : (w : Path) → pathRecord w .len ≡ length w
@@ -68,14 +69,17 @@ module _ (t : Task) (k : HeldTask t) (d : ℕ) (o : 0 < d) (u : d ≤ largestD) 
         omega (arith, short),
       )
 
-  pub path-written : {before after : List ℕ} {at next : ℕ} → Wrote (pathCells r) before at after next → Wrote (pathCell path) before at after next × (next ≤ at + (1 + d))
+  pub path-written : {before after : List ℕ} {at next : ℕ} → Wrote (pathCells r) before at after next
+      → Wrote (pathCell path) before at after next × (next ≤ at + (1 + d))
   path-written {before} {after} {at} {next} w =
-      let v : Wrote (pathCell path) before at after next = subst (λ (cells : List ℕ). Wrote cells before at after next) (ap pathCells e ∙ record-cells path) w in
+      let v : Wrote (pathCell path) before at after next =
+      subst (λ (cells : List ℕ). Wrote cells before at after next) (ap pathCells e ∙ record-cells path) w in
       (v, omega (arith, v .end, short))
 
 -- ---- the paths at their places
 
-pub at-place : (ks : List Meant.Task) (d : ℕ) (ps : List ℕ) (j : ℕ) → j < length ks → length ks ≤ length ps → getD (pathsAt ks d ps) j [] ≡ pathAt (getD ks j noTask) d (getD ps j 0)
+pub at-place : (ks : List Meant.Task) (d : ℕ) (ps : List ℕ) (j : ℕ) → j < length ks
+    → length ks ≤ length ps → getD (pathsAt ks d ps) j [] ≡ pathAt (getD ks j noTask) d (getD ps j 0)
 at-place [] d ps j h l = absurd (omega arith)
 at-place (k ∷ ks) d [] j h l = absurd (omega arith)
 at-place (k ∷ ks) d (p ∷ ps) zero h l = refl

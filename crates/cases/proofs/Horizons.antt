@@ -19,8 +19,11 @@ module _ (t : Table) (k : Held t) where
   last-task = omega (arith, held-count t k, k .sound .someTask)
 
   pub task-asks : (j : ℕ) → j < t .n → (d : ℕ) → HeldTask (ownTask t j) × (0 < length (pathsOf (taskOf (ownTask t j)) d))
-  task-asks j l d =
-      (held-one t k _ j l, subst (λ (x : Meant.Task). 0 < length (pathsOf x d)) (sym (held-is t k _ j l)) (paths-some (taskAt (tableOf t) j) (held-sound t k j l) d))
+  task-asks j l d = (
+    held-one t k _ j l,
+    subst (λ (x : Meant.Task). 0 < length (pathsOf x d))
+        (sym (held-is t k _ j l)) (paths-some (taskAt (tableOf t) j) (held-sound t k j l) d),
+  )
 
   pub horizon : (j : ℕ) → j < t .n → (0 < ownVertex t j 0 .d .0) × (ownVertex t j 0 .d .0 ≤ largestD)
   horizon j l =

@@ -51,7 +51,8 @@ cut-next from m k v r so c p =
           elim (ℕ-discrete (getD from r 0) v) [ yes q ↦ absurd (p .next (omega arith) q) | no q ↦ omega arith ];
     }
 
-pub cutting-more : (from : List ℕ) (m : ℕ) (s : List ℕ) (k v r : ℕ) → Sorted from m → Cutting from m s k v → v < mostVertices → EdgesEnd from k m v r → Cutting from m (set s (v + 1) r) r (v + 1)
+pub cutting-more : (from : List ℕ) (m : ℕ) (s : List ℕ) (k v r : ℕ) → Sorted from m → Cutting from m s k v
+    → v < mostVertices → EdgesEnd from k m v r → Cutting from m (set s (v + 1) r) r (v + 1)
 cutting-more from m s k v r so c h p =
     let l = c .cells in
     let e : getD (set s (v + 1) r) (v + 1) 0 ≡ r = getD-set-same s (v + 1) r 0 (omega arith) in

@@ -50,7 +50,8 @@ count-shift f g a (suc n) h = ap₂ (λ x (y : List _). x ∷ y) (h a) (count-sh
 
 -- the elements from a up to b, where the test holds of those and of no other
 those-range : {X : Type 0} (f : X → Bool) (z : X) (es : List X) (a b : ℕ) → a ≤ b → b ≤ length es
-    → ((j : ℕ) → j < a → f (getD es j z) ≡ false) → ((j : ℕ) → a ≤ j → j < b → f (getD es j z) ≡ true) → ((j : ℕ) → b ≤ j → j < length es → f (getD es j z) ≡ false)
+    → ((j : ℕ) → j < a → f (getD es j z) ≡ false) → ((j : ℕ) → a ≤ j → j < b → f (getD es j z) ≡ true)
+    → ((j : ℕ) → b ≤ j → j < length es → f (getD es j z) ≡ false)
     → those f es ≡ map (λ (j : ℕ). getD es j z) (countFrom a (b - a))
 those-range f z [] a b h l p q r = let y : b - a ≡ 0 = omega arith in rw y
 those-range f z (x ∷ es) zero zero h l p q r = those-none f z (x ∷ es) (λ j m. r j (omega arith) m)
@@ -58,7 +59,8 @@ those-range f z (x ∷ es) zero (suc b) h l p q r =
     let y : suc b - 0 ≡ suc b = omega arith in
     let w : b - 0 ≡ b = omega arith in
     ap (λ (t : Bool). pick t (x ∷ those f es) (those f es)) (q 0 (omega arith) (omega arith))
-    ∙ ap (λ (t : List _). x ∷ t) (those-range f z es zero b (omega arith) (omega arith) (λ j m. absurd (omega arith)) (λ j m n. q (suc j) (omega arith) (omega arith)) (λ j m n. r (suc j) (omega arith) (omega arith))
+    ∙ ap (λ (t : List _). x ∷ t) (those-range f z es zero b (omega arith) (omega arith) (λ j m. absurd (omega arith))
+    (λ j m n. q (suc j) (omega arith) (omega arith)) (λ j m n. r (suc j) (omega arith) (omega arith))
     ∙ ap (λ (n : ℕ). map (λ (j : ℕ). getD es j z) (countFrom 0 n)) w
     ∙ count-shift (λ (j : ℕ). getD es j z) (λ (j : ℕ). getD (x ∷ es) j z) 0 b (λ j. refl))
     ∙ ap (λ (n : ℕ). map (λ (j : ℕ). getD (x ∷ es) j z) (countFrom 0 n)) (sym y)
@@ -66,7 +68,8 @@ those-range f z (x ∷ es) (suc a) zero h l p q r = absurd (omega arith)
 those-range f z (x ∷ es) (suc a) (suc b) h l p q r =
     let y : suc b - suc a ≡ b - a = omega arith in
     ap (λ (t : Bool). pick t (x ∷ those f es) (those f es)) (p 0 (omega arith))
-    ∙ those-range f z es a b (omega arith) (omega arith) (λ j m. p (suc j) (omega arith)) (λ j m n. q (suc j) (omega arith) (omega arith)) (λ j m n. r (suc j) (omega arith) (omega arith))
+    ∙ those-range f z es a b (omega arith) (omega arith) (λ j m. p (suc j) (omega arith))
+    (λ j m n. q (suc j) (omega arith) (omega arith)) (λ j m n. r (suc j) (omega arith) (omega arith))
     ∙ count-shift (λ (j : ℕ). getD es j z) (λ (j : ℕ). getD (x ∷ es) j z) a (b - a) (λ j. refl)
     ∙ ap (λ (n : ℕ). map (λ (j : ℕ). getD (x ∷ es) j z) (countFrom (suc a) n)) (sym y)
 
@@ -74,7 +77,8 @@ map-range : {X : Type 0} (f g : ℕ → X) (a n : ℕ) → ((j : ℕ) → a ≤ 
 map-range f g a zero h = refl
 map-range f g a (suc n) h = ap₂ (λ x (y : List _). x ∷ y) (h a (omega arith) (omega arith)) (map-range f g (suc a) n (λ j l m. h j (omega arith) (omega arith)))
 
-rising-range : {X : Type 0} (R : X → X → Type 0) (f : ℕ → X) (a n : ℕ) → ((i j : ℕ) → a ≤ i → i < j → j < a + n → R (f i) (f j)) → Rising R (map f (countFrom a n))
+rising-range : {X : Type 0} (R : X → X → Type 0) (f : ℕ → X) (a n : ℕ)
+    → ((i j : ℕ) → a ≤ i → i < j → j < a + n → R (f i) (f j)) → Rising R (map f (countFrom a n))
 rising-range R f a zero h = tt
 rising-range R f a (suc n) h = (
   λ y m.
@@ -105,7 +109,8 @@ module _ (t : Task) (s : Ready t) where
 
   column-at : (f : Edge → ℕ) (c : List ℕ) → f noEdge ≡ 0 → Column t f c → (j : ℕ) → j < t .ne → getD c j 0 ≡ f (edgeCell t j)
   column-at f c z e j h =
-      ap (λ (w : List ℕ). getD w j 0) e ∙ col-at (replicate mostEdges 0) (map f (t .edges)) (t .ne) j h (edges-in f) (omega (arith, length-replicate {A = ℕ} mostEdges 0, s .links))
+      ap (λ (w : List ℕ). getD w j 0) e
+      ∙ col-at (replicate mostEdges 0) (map f (t .edges)) (t .ne) j h (edges-in f) (omega (arith, length-replicate {A = ℕ} mostEdges 0, s .links))
       ∙ ap (getD (map f (t .edges)) j) (sym z) ∙ List·getD-map f (t .edges) j noEdge
 
   module _ (from start to p e : List ℕ) (ef : Column t fromIn from) (et : Column t toIn to) (ep : Column t pIn p)
@@ -116,7 +121,11 @@ module _ (t : Task) (s : Ready t) where
     rises : (u w : ℕ) → u ≤ w → w ≤ mostVertices → getD start u 0 ≤ getD start w 0
     rises u w h l = elim (decLt (getD start w 0) (getD start u 0)) [
       | no x ↦ omega arith
-      | yes x ↦ absurd (omega (arith, cu u (omega arith) .below (getD start w 0) x, cu w l .above (getD start w 0) (omega arith) (omega (arith, cu u (omega arith) .high))))
+      | yes x ↦ absurd (omega (
+        arith,
+        cu u (omega arith) .below (getD start w 0) x,
+        cu w l .above (getD start w 0) (omega arith) (omega (arith, cu u (omega arith) .high)),
+      ))
     ]
 
     full : getD start mostVertices 0 ≤ t .ne
@@ -146,17 +155,20 @@ module _ (t : Task) (s : Ready t) where
         let b = cu (v + 1) (omega arith) in
         let bh = b .high in
         let r = rises v (v + 1) (omega arith) (omega arith) in
-        those-range (λ (x : Meant.Edge). eqb (x .from) v) noMeantEdge (map edgeOf (take (t .ne) (t .edges))) (getD start v 0) (getD start (v + 1) 0) r (omega (arith, es-length))
+        those-range (λ (x : Meant.Edge). eqb (x .from) v) noMeantEdge (map edgeOf (take (t .ne) (t .edges)))
+        (getD start v 0) (getD start (v + 1) 0) r (omega (arith, es-length))
         (λ j l. own-test v j (omega arith) ∙ ne-eqb (getD from j 0) v (λ q. omega (arith, a .below j l)))
         (λ j l m. own-test v j (omega arith) ∙ eq-eqb (getD from j 0) v (omega (arith, a .above j l (omega arith), b .below j m)))
         (λ j l m. own-test v j (omega (arith, es-length)) ∙ ne-eqb (getD from j 0) v (λ q. omega (arith, b .above j l (omega (arith, es-length)))))
-        ∙ map-range (λ (j : ℕ). getD (map edgeOf (take (t .ne) (t .edges))) j noMeantEdge) (edgeAt to p v) (getD start v 0) (getD start (v + 1) 0 - getD start v 0)
+        ∙ map-range (λ (j : ℕ). getD (map edgeOf (take (t .ne) (t .edges))) j noMeantEdge)
+        (edgeAt to p v) (getD start v 0) (getD start (v + 1) 0 - getD start v 0)
         (λ j l m.
         let jm : j < t .ne = omega arith in
         let q : edgeCell t j .from .0 ≡ v = omega (arith, from-at j jm, a .above j l jm, b .below j (omega arith)) in
         es-at j jm ∙ same q (sym (column-at toIn to refl et j jm)) (sym (column-at pIn p refl ep j jm)))
       where
-        same : {x x' y y' z z' : ℕ} → x ≡ x' → y ≡ y' → z ≡ z' → _≡_ {A = Meant.Edge} (record { from = x; to = y; p = z }) (record { from = x'; to = y'; p = z' })
+        same : {x x' y y' z z' : ℕ} → x ≡ x' → y ≡ y' → z ≡ z'
+            → _≡_ {A = Meant.Edge} (record { from = x; to = y; p = z }) (record { from = x'; to = y'; p = z' })
         same q r w = cc
 
     fan : (v : ℕ) → Rising (λ (x y : Meant.Edge). x .to < y .to) (outOf (taskOf t) v)
@@ -166,15 +178,18 @@ module _ (t : Task) (s : Ready t) where
           let b = cu (v + 1) (omega arith) in
           let bh = b .high in
           let r = rises v (v + 1) (omega arith) (omega arith) in
-          subst (Rising (λ (x y : Meant.Edge). x .to < y .to)) (sym (outs v h)) (rising-range (λ (x y : Meant.Edge). x .to < y .to) (edgeAt to p v) (getD start v 0) (getD start (v + 1) 0 - getD start v 0)
+          subst (Rising (λ (x y : Meant.Edge). x .to < y .to)) (sym (outs v h))
+          (rising-range (λ (x y : Meant.Edge). x .to < y .to) (edgeAt to p v) (getD start v 0) (getD start (v + 1) 0 - getD start v 0)
           (λ i j x y z.
           let jm : j < t .ne = omega arith in
           let im : i < t .ne = omega arith in
           let qi : edgeCell t i .from .0 ≡ v = omega (arith, from-at i im, a .above i x im, b .below i (omega arith)) in
           let qj : edgeCell t j .from .0 ≡ v = omega (arith, from-at j jm, a .above j (omega arith) jm, b .below j (omega arith)) in
           omega (arith, column-at toIn to refl et i im, column-at toIn to refl et j jm, s .fanned i j y jm (qi ∙ sym qj))))
-      | no h ↦ subst (Rising (λ (x y : Meant.Edge). x .to < y .to)) (sym (those-none (λ (x : Meant.Edge). eqb (x .from) v) noMeantEdge (map edgeOf (take (t .ne) (t .edges)))
-          (λ j l. own-test v j (omega (arith, es-length)) ∙ ne-eqb (getD from j 0) v (λ q. omega (arith, from-at j (omega (arith, es-length)), s .from j (omega (arith, es-length)), s .few))))) tt
+      | no h ↦ subst (Rising (λ (x y : Meant.Edge). x .to < y .to))
+          (sym (those-none (λ (x : Meant.Edge). eqb (x .from) v) noMeantEdge (map edgeOf (take (t .ne) (t .edges)))
+          (λ j l. own-test v j (omega (arith, es-length))
+          ∙ ne-eqb (getD from j 0) v (λ q. omega (arith, from-at j (omega (arith, es-length)), s .from j (omega (arith, es-length)), s .few))))) tt
     ]
 
     vertices-in : t .nv ≤ length (map executionIn (t .vertices))
@@ -187,12 +202,15 @@ module _ (t : Task) (s : Ready t) where
     unfolding execution
     co v h = elim (decLt v (t .nv)) [
       | yes l ↦
-          ap (λ (w : List ℕ). getD w v 0) ee ∙ col-at (replicate mostVertices 0) (map executionIn (t .vertices)) (t .nv) v l vertices-in (omega (arith, length-replicate {A = ℕ} mostVertices 0, s .few))
+          ap (λ (w : List ℕ). getD w v 0) ee ∙ col-at (replicate mostVertices 0) (map executionIn (t .vertices))
+          (t .nv) v l vertices-in (omega (arith, length-replicate {A = ℕ} mostVertices 0, s .few))
           ∙ List·getD-map executionIn (t .vertices) v noVertex
-          ∙ sym (ap (λ (x : Meant.Vertex). x .e) (List·getD-map vertexOf (take (t .nv) (t .vertices)) v noVertex ∙ ap vertexOf (getD-take (t .nv) (t .vertices) v noVertex l)))
+          ∙ sym (ap (λ (x : Meant.Vertex). x .e)
+          (List·getD-map vertexOf (take (t .nv) (t .vertices)) v noVertex ∙ ap vertexOf (getD-take (t .nv) (t .vertices) v noVertex l)))
       | no l ↦
           ap (λ (w : List ℕ). getD w v 0) ee ∙ col-past mostVertices (t .nv) v (map executionIn (t .vertices)) (omega arith) vertices-in
-          ∙ sym (ap (λ (x : Meant.Vertex). x .e) (List·getD-eq-default (map vertexOf (take (t .nv) (t .vertices))) Meant.noVertex {n = v} (omega (arith, vs-length))))
+          ∙ sym (ap (λ (x : Meant.Vertex). x .e)
+          (List·getD-eq-default (map vertexOf (take (t .nv) (t .vertices))) Meant.noVertex {n = v} (omega (arith, vs-length))))
     ]
 
     pub columns-say : ColumnsOf (taskOf t) e start to p
@@ -210,9 +228,11 @@ module _ (t : Task) (s : Ready t) where
 abbrev pub Front : Task → (Edge → ℕ) → List ℕ → ℕ → Type 0
 Front t f c k = c ≡ sets (replicate mostEdges 0) 0 (take k (map f (t .edges)))
 
-pub front-more : (t : Task) → Ready t → (f : Edge → ℕ) (c : List ℕ) (k : ℕ) → f noEdge ≡ 0 → k < t .ne → Front t f c k → Front t f (set c k (f (edgeCell t k))) (k + 1)
+pub front-more : (t : Task) → Ready t → (f : Edge → ℕ) (c : List ℕ) (k : ℕ) → f noEdge ≡ 0
+    → k < t .ne → Front t f c k → Front t f (set c k (f (edgeCell t k))) (k + 1)
 front-more t s f c k z h e =
-    col-more (replicate mostEdges 0) c (map f (t .edges)) k (f (edgeCell t k)) (omega (arith, edges-in t s f)) e (sym (ap (getD (map f (t .edges)) k) (sym z) ∙ List·getD-map f (t .edges) k noEdge))
+    col-more (replicate mostEdges 0) c (map f (t .edges)) k (f (edgeCell t k)) (omega (arith, edges-in t s f)) e
+    (sym (ap (getD (map f (t .edges)) k) (sym z) ∙ List·getD-map f (t .edges) k noEdge))
 
 pub front-all : (t : Task) (f : Edge → ℕ) (c : List ℕ) (k : ℕ) → k ≡ t .ne → Front t f c k → Column t f c
 front-all t f c k h e = e ∙ ap (λ (n : ℕ). sets (replicate mostEdges 0) 0 (take n (map f (t .edges)))) h

@@ -16,7 +16,8 @@ use Rattle.frames.specs.declared.EdgeLine.the-variants.{EdgeTaken, EdgeR
 use Rattle.frames.specs.declared.TaskOrEndLine.{TaskOrEndLine}
 use Rattle.frames.specs.declared.TaskOrEndLine.the-variants.{TaskTaken, EndTaken, FrameRefused}
 use Rattle.digits.specs.Digits.{frameAt, digitCount}
-use Rattle.frames.specs.Frames.{taskDigits, partDigits, endDigits, faultOf, startsWith, vertexE, vertexD, vertexLine, edgeFrom, edgeTo, edgeP, edgeLine, taskVertices, taskEdges, endLine, taskOrEndLine}
+use Rattle.frames.specs.Frames.{taskDigits, partDigits, endDigits, faultOf, startsWith, vertexE, vertexD, vertexLine, edgeFrom, edgeTo, edgeP, edgeLine}
+use Rattle.frames.specs.Frames.{taskVertices, taskEdges, endLine, taskOrEndLine}
 use Rattle.rules.specs.Rules.{taskIn, vertexIn, edgeIn, edgeSpaced, edgeAfter}
 
 -- a call gave b for the test x, and the code went on, or left, at `!b`

@@ -26,7 +26,8 @@ read-held r = record { whole = r .is; sound = r .sound }
 
 module _ (text : List ℕ) (i v b : ℕ) (work wit : List ℕ) where
   abbrev For : Reading → Verdict → List ℕ → List ℕ → Type 0
-  For m r work′ wit′ = Answered (onReading m (λ (ts : Meant.Table). judged ts i v b (length work) (length wit))) (workNeed (tasksOf m) i v) work wit r work′ wit′
+  For m r work′ wit′ = Answered (onReading m (λ (ts : Meant.Table). judged ts i v b (length work) (length wit)))
+      (workNeed (tasksOf m) i v) work wit r work′ wit′
 
   judged-for : (r : Verdict) (work′ wit′ : List ℕ) → For (read text) r work′ wit′ → Judged text i v b work wit r work′ wit′
   judged-for r work′ wit′ x = record { verdict = x .verdict; cells = x .cells; paths = x .paths }
@@ -37,7 +38,8 @@ module _ (text : List ℕ) (i v b : ℕ) (work wit : List ℕ) where
       (subst (λ m. For m (Refused at) work wit) (sym (l .means)) (record { verdict = refl; cells = refl; paths = refl }))
 
   pub table-answers : (t : Table) (r : Verdict) (work′ wit′ : List ℕ) → TableRead text t
-      → Answered (judged (tableOf t) i v b (length work) (length wit)) (workNeed (tableOf t) i v) work wit r work′ wit′ → Judged text i v b work wit r work′ wit′
+      → Answered (judged (tableOf t) i v b (length work) (length wit)) (workNeed (tableOf t) i v) work wit r work′ wit′
+      → Judged text i v b work wit r work′ wit′
   table-answers t r work′ wit′ q x = judged-for r work′ wit′ (subst (λ m. For m r work′ wit′) (sym (q .means)) x)
 
 -- ---- of a whole table
@@ -52,5 +54,6 @@ module _ (text : List ℕ) (b : ℕ) (work : List ℕ) where
   pub text-uncounted : (at : RefusedAt) → LineRefused text at → TableJudged text b work (Whole.Refused at) work
   text-uncounted at l = on-reading _ (Whole.Refused at) work (l .means) (refl, refl)
 
-  pub table-counted : (t : Table) (c : Counts) (work′ : List ℕ) → TableRead text t → TableCounted (tableOf t) b work c work′ → TableJudged text b work (Whole.Counted c) work′
+  pub table-counted : (t : Table) (c : Counts) (work′ : List ℕ) → TableRead text t
+      → TableCounted (tableOf t) b work c work′ → TableJudged text b work (Whole.Counted c) work′
   table-counted t c work′ q x = on-reading _ (Whole.Counted c) work′ (q .means) (ap counted (x .counts), x .cells)

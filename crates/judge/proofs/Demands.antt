@@ -16,7 +16,8 @@ use Rattle.meaning.specs.Sound.{AllSound}
 use Rattle.meaning.specs.Demands.{C}
 use Rattle.meaning.proofs.Demands.{readable-sound}
 use Rattle.meaning.proofs.Verdicts.{Given, judged-refused, judged-row}
-use Rattle.meaning.proofs.Answers.{sound-higher, misses-says, meets-says, overload-misses, free-meets, given-lasts, short-unfinished, unfinished-short, few-groups}
+use Rattle.meaning.proofs.Answers.{sound-higher, misses-says, meets-says, overload-misses, free-meets, given-lasts, short-unfinished, unfinished-short}
+use Rattle.meaning.proofs.Answers.{few-groups}
 use Rattle.meaning.proofs.Counts.{counts-all, meets-mono, misses-mono}
 use Rattle.kinds.specs.declared.Refusal.{Refusal}
 use Rattle.kinds.specs.declared.Verdict.{Verdict}
@@ -170,8 +171,18 @@ four-counts =
         let ts = m .0 in
         let own = counts-of x c ts (m .1) e in
         let other = counts-of y d ts (same ∙ m .1) f ∙ ap (λ (n : ℕ). countsOf (verdicts ts (y .b) n)) room in (
-          omega (arith, ap (λ (n : Meant.Counts). n .meeting) own, ap (λ (n : Meant.Counts). n .meeting) other, meets-mono ts (length (x .work)) (x .b) (y .b) h),
-          omega (arith, ap (λ (n : Meant.Counts). n .missing) own, ap (λ (n : Meant.Counts). n .missing) other, misses-mono ts (length (x .work)) (x .b) (y .b) h),
+          omega (
+            arith,
+            ap (λ (n : Meant.Counts). n .meeting) own,
+            ap (λ (n : Meant.Counts). n .meeting) other,
+            meets-mono ts (length (x .work)) (x .b) (y .b) h,
+          ),
+          omega (
+            arith,
+            ap (λ (n : Meant.Counts). n .missing) own,
+            ap (λ (n : Meant.Counts). n .missing) other,
+            misses-mono ts (length (x .work)) (x .b) (y .b) h,
+          ),
         )
 
 -- ---- what the statements settle

@@ -73,7 +73,8 @@ module _ (t : Table) (k : Held t) (i : ℕ) (l : i < t .n) (d : ℕ) where
   front-length j m = length-take-le j ns (omega (arith, counts-many))
 
   -- the lister's answer, cut off past the most that are allowed
-  module _ (z : Task) {above : Above} {j : ℕ} (c : CountedTo ks i d above j) (m : j < i) (r : ℕ) (e : r ≡ min (mostPaths + 1) (length (pathsOf (taskOf (getD (t .tasks) j z)) d))) where
+  module _ (z : Task) {above : Above} {j : ℕ} (c : CountedTo ks i d above j) (m : j < i) (r : ℕ)
+      (e : r ≡ min (mostPaths + 1) (length (pathsOf (taskOf (getD (t .tasks) j z)) d))) where
     pub crowds : mostPaths < r → mostPaths < getD ns j 0
     crowds h = omega (arith, count-of z j m)
 
@@ -94,13 +95,16 @@ module _ (t : Table) (k : Held t) (i : ℕ) (l : i < t .n) (d : ℕ) where
           let few : (n : ℕ) → n < length (take j ns) → getD (take j ns) n 0 ≤ mostPaths = (
           λ n o. let p : n < j = omega (arith, front-length j (c .low)) in rw (getD-take j ns n 0 p) (c .few n p)
           ) in
-          let all = counted d (take j ns) (omega (arith, front-length j (c .low), seven)) few in
-          (subst (λ (x : Above). Counted j x) (sym (c .is)) (subst (λ (n : ℕ). Counted n (aboveOf d (take j ns))) (front-length j (c .low)) all), omega (arith, seven))
+          let all = counted d (take j ns) (omega (arith, front-length j (c .low), seven)) few in (
+            subst (λ (x : Above). Counted j x) (sym (c .is)) (subst (λ (n : ℕ). Counted n (aboveOf d (take j ns))) (front-length j (c .low)) all),
+            omega (arith, seven),
+          )
 
       pub counted-more : {next : Above} → next ≡ withPaths above j r d → CountedTo ks i d next (j + 1)
       counted-more e′ =
           let front = front-length j (c .low) in
-          let next : take j ns ++ r ∷ [] ≡ take (j + 1) ns = ap (λ (n : ℕ). take j ns ++ n ∷ []) paths-counted ∙ sym (rw (add-one j) (take-suc ns j 0 (omega (arith, counts-many)))) in
+          let next : take j ns ++ r ∷ [] ≡ take (j + 1) ns =
+          ap (λ (n : ℕ). take j ns ++ n ∷ []) paths-counted ∙ sym (rw (add-one j) (take-suc ns j 0 (omega (arith, counts-many)))) in
           record {
             low = omega arith;
             seven = seven;
@@ -147,7 +151,8 @@ module _ (t : Table) (k : Held t) (i : ℕ) (l : i < t .n) (d : ℕ) where
 
       -- what filling one stretch asks
       pub fill-asks : (let n = getD (a .counts) j 0 in let from = getD (a .roots) j 0 in
-          (HeldTask (getD (t .tasks) j z) × (n ≡ length (pathsOf (taskOf (getD (t .tasks) j z)) d)) × (n ≤ mostPaths)) × ((0 < d) × (d ≤ largestD) × (from + stretchCells d n ≤ length now)))
+          (HeldTask (getD (t .tasks) j z) × (n ≡ length (pathsOf (taskOf (getD (t .tasks) j z)) d)) × (n ≤ mostPaths))
+          × ((0 < d) × (d ≤ largestD) × (from + stretchCells d n ≤ length now)))
       fill-asks =
           let x = at ks d few j there in
           let paths = x .paths ∙ ap (λ (y : Meant.Task). length (pathsOf y d)) (sym (task-is z j m)) in
@@ -163,7 +168,8 @@ module _ (t : Table) (k : Held t) (i : ℕ) (l : i < t .n) (d : ℕ) where
           ∙ ap (λ (n : ℕ). sets now n (stretch (taskOf (getD (t .tasks) j z)))) (x .from)
           ∙ ap (λ (y : Meant.Task). sets now from (stretch y)) (task-is z j m)
           ) in
-          let g = gathering-more stretch ks {next = from + length (stretch (getD ks j noTask))} noTask (f .gathered) there (record { cells = cells; end = refl }) in
+          let g = gathering-more stretch ks {next = from + length (stretch (getD ks j noTask))} noTask
+          (f .gathered) there (record { cells = cells; end = refl }) in
           let end : from + length (stretch (getD ks j noTask)) ≡ length (stretches (take (j + 1) ks) d) = g .wrote .end ∙ omega arith in
           record { low = omega arith; seven = seven; gathered = subst (λ (n : ℕ). Gathering stretch ks P 0 after n (j + 1)) end g }
 

@@ -29,7 +29,8 @@ pub record MissTo (ks : List Meant.Task) (h d : ℕ) (ps before now : List ℕ) 
   pub short : at ≤ j * (1 + d)
   pub gathered : Gathering pathCell (pathsAt ks d ps) before 0 now at j
 
-module _ (t : Table) (k : Held t) (h : ℕ) (l : h < t .n) (d : ℕ) (o : 0 < d) (u : d ≤ largestD) (ps before : List ℕ) (places : length ps ≡ mostHigher) (room : h * (1 + d) ≤ length before) where
+module _ (t : Table) (k : Held t) (h : ℕ) (l : h < t .n) (d : ℕ) (o : 0 < d) (u : d ≤ largestD)
+    (ps before : List ℕ) (places : length ps ≡ mostHigher) (room : h * (1 + d) ≤ length before) where
   abbrev ks : List Meant.Task
   ks = higher (tableOf t) h
 
@@ -46,7 +47,8 @@ module _ (t : Table) (k : Held t) (h : ℕ) (l : h < t .n) (d : ℕ) (o : 0 < d)
     more : (j + 1) * (1 + d) ≡ j * (1 + d) + (1 + d)
     more = ap (λ (n : ℕ). n * (1 + d)) (add-one j) ∙ suc-mul j (1 + d) ∙ omega arith
 
-    pub place-asks : getD ps j 0 ≤ mostCounted → HeldTask (getD (t .tasks) j z) × (0 < d) × (d ≤ largestD) × (getD ps j 0 ≤ mostCounted) × (at + (1 + d) ≤ length now)
+    pub place-asks : getD ps j 0 ≤ mostCounted → HeldTask (getD (t .tasks) j z) × (0 < d)
+        × (d ≤ largestD) × (getD ps j 0 ≤ mostCounted) × (at + (1 + d) ≤ length now)
     place-asks q = (held-one t k z j (omega arith), o, u, q, omega (arith, w .short, w .gathered .same, row-fits j m, more))
 
     pub miss-more : {after : List ℕ} {next : ℕ}
@@ -61,7 +63,8 @@ module _ (t : Table) (k : Held t) (h : ℕ) (l : h < t .n) (d : ℕ) (o : 0 < d)
           low = omega arith;
           few = w .few;
           short = omega (arith, w .short, more);
-          gathered = gathering-more pathCell (pathsAt ks d ps) [] (w .gathered) (omega (arith, long)) (subst (λ (x : Path). Wrote (pathCell x) now at after next) same v);
+          gathered = gathering-more pathCell (pathsAt ks d ps) [] (w .gathered) (omega (arith, long))
+              (subst (λ (x : Path). Wrote (pathCell x) now at after next) same v);
         }
 
   pub miss-all : {now : List ℕ} {at j : ℕ} → MissTo ks h d ps before now at j → h ≤ j → Wrote (cellsOf (pathsAt ks d ps)) before 0 now at × (at ≤ h * (1 + d))

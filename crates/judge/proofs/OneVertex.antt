@@ -54,8 +54,7 @@ use Rattle.judge.proofs.Missing.{MissTo, miss-none, place-asks, miss-mo
 use Rattle.judge.proofs.Sheet.{none-crowded, first-crowded, need-rows, no-task, no-vertex, at-9, at-10, at-11, at-walk}
 
 answer-refused : (J : Said.Verdict) (ρ : Refusal) (place need : ℕ) (work wit : List ℕ) {x : Kinds.Verdict}
-    → x ≡ Kind.Refused (refusedAt ρ place) → J ≡ Said.refused (refusalNumber ρ) place
-    → Answered J need work wit x work wit
+    → x ≡ Kind.Refused (refusedAt ρ place) → J ≡ Said.refused (refusalNumber ρ) place → Answered J need work wit x work wit
 answer-refused J ρ place need work wit {x} e q =
     subst (λ (y : Kinds.Verdict). Answered J need work wit y work wit) (sym e)
     (subst (λ y. Answered y need work wit (Kind.Refused (refusedAt ρ place)) work wit) (sym q) (record { verdict = refl; cells = refl; paths = refl }))
@@ -71,7 +70,8 @@ module _ (t : Table) (k : Held t) (i v b : ℕ) (work wit : List ℕ) where
   answer-8 h e = answer-refused _ NoSuchVertex 0 _ work wit e (no-task (tableOf t) i v b (length work) (length wit) (omega (arith, held-count t k)))
 
   pub answer-8-vertex : i < t .n → ownTask t i .nv ≤ v → {x : Kinds.Verdict} → x ≡ noSuchVertex → Refuses x
-  answer-8-vertex l h e = answer-refused _ NoSuchVertex 0 _ work wit e (no-vertex (tableOf t) i v b (length work) (length wit) (omega (arith, own-size t k i l)))
+  answer-8-vertex l h e = answer-refused _ NoSuchVertex 0 _ work wit e
+      (no-vertex (tableOf t) i v b (length work) (length wit) (omega (arith, own-size t k i l)))
 
   pub is-there : i < t .n → v < ownTask t i .nv → There (tableOf t) (record { task = i; vertex = v })
   is-there l m = record { task = omega (arith, held-count t k); vertex = omega (arith, own-size t k i l) }
@@ -229,7 +229,8 @@ module _ (asked : Asked) where
         q : areaRows (a .rows * d) (i * (1 + d)) (length work) (length wit) ≡ Refused at
         q = sym p ∙ q′
 
-        refused-as : (ρ : Refusal) (place : ℕ) → areaRows (a .rows * d) (i * (1 + d)) (length work) (length wit) ≡ Refused (refusedAt ρ place) → J ≡ Said.refused (refusalNumber ρ) place
+        refused-as : (ρ : Refusal) (place : ℕ) → areaRows (a .rows * d) (i * (1 + d)) (length work) (length wit) ≡ Refused (refusedAt ρ place)
+            → J ≡ Said.refused (refusalNumber ρ) place
             → Answered J need work wit (Kind.Refused at) work wit
         refused-as ρ place e′ said = answer-refused J ρ place need work wit (ap Kind.Refused (sym (same-at (sym e′ ∙ q)))) said
 
@@ -262,10 +263,12 @@ module _ (asked : Asked) where
 
       module _ (z : Task) {now : List ℕ} {n : ℕ} (f : FilledTo ks i d work now n) (m : n < i) where
         pub stretch-asks : (let paths = getD (a .counts) n 0 in let from = getD (a .roots) n 0 in
-            (HeldTask (getD (t .tasks) n z) × (paths ≡ length (pathsOf (taskOf (getD (t .tasks) n z)) d)) × (paths ≤ mostPaths)) × ((0 < d) × (d ≤ largestD) × (from + stretchCells d paths ≤ length now)))
+            (HeldTask (getD (t .tasks) n z) × (paths ≡ length (pathsOf (taskOf (getD (t .tasks) n z)) d)) × (paths ≤ mostPaths))
+            × ((0 < d) × (d ≤ largestD) × (from + stretchCells d paths ≤ length now)))
         stretch-asks = fill-asks t k i task-in d few-paths work room a a-is z f m
 
-        pub filling-more : {after : List ℕ} → after ≡ sets now (getD (a .roots) n 0) (stretchOf (taskOf (getD (t .tasks) n z)) d) → FilledTo ks i d work after (n + 1)
+        pub filling-more : {after : List ℕ} → after ≡ sets now (getD (a .roots) n 0) (stretchOf (taskOf (getD (t .tasks) n z)) d)
+            → FilledTo ks i d work after (n + 1)
         filling-more = filled-more t k i task-in d few-paths work room a a-is z f m
 
       -- ---- all are filled
@@ -298,13 +301,16 @@ module _ (asked : Asked) where
         cleared : zeroed (a .rows * d) W ≡ zeroed need work
         cleared =
             ap (λ (x : List ℕ). replicate (a .rows * d) 0 ++ x)
-            (ap (drop (a .rows * d)) filled ∙ drop-at (stretches ks d) (drop (length (stretches ks d)) work) (a .rows * d) need-long ∙ ap (λ (n : ℕ). drop n work) need-long)
+            (ap (drop (a .rows * d)) filled ∙ drop-at (stretches ks d) (drop (length (stretches ks d)) work) (a .rows * d) need-long
+            ∙ ap (λ (n : ℕ). drop n work) need-long)
             ∙ ap (λ (n : ℕ). zeroed n work) needs-are
 
-        pub search-asks : ((a .rows ≤ rowsFor mostPaths * mostHigher) × (d ≤ largestD) × (a .rows * d ≤ length W)) × Walkable i d e (a .roots) (a .counts) (take (a .rows * d) W)
+        pub search-asks : ((a .rows ≤ rowsFor mostPaths * mostHigher) × (d ≤ largestD) × (a .rows * d ≤ length W))
+            × Walkable i d e (a .roots) (a .counts) (take (a .rows * d) W)
         search-asks =
             let w : Walkable i d e (aboveOf d (pathCounts ks d) .roots) (aboveOf d (pathCounts ks d) .counts) (stretches ks d) = (
-            subst (λ (n : ℕ). Walkable n d e (aboveOf d (pathCounts ks d) .roots) (aboveOf d (pathCounts ks d) .counts) (stretches ks d)) (many t k i task-in d) (walkable ks d few-paths e e-small)
+            subst (λ (n : ℕ). Walkable n d e (aboveOf d (pathCounts ks d) .roots) (aboveOf d (pathCounts ks d) .counts) (stretches ks d))
+            (many t k i task-in d) (walkable ks d few-paths e e-small)
             ) in
             let x : Walkable i d e (a .roots) (a .counts) (stretches ks d) = subst (λ (y : Above). Walkable i d e (y .roots) (y .counts) (stretches ks d)) (sym a-is) w in
             ((area-asks .0, d-bounds .1, omega (arith, rooms .0, f .gathered .same)), subst (Walkable i d e (a .roots) (a .counts)) (sym front) x)
@@ -350,7 +356,8 @@ module _ (asked : Asked) where
                 let small = places-small ks d few-paths e b e-small r ran-front c′ q n′ (omega (arith, many t k i task-in d)) in
                 place-asks t k i task-in d (d-bounds .0) (d-bounds .1) (r .places) wit seven-places (rooms .1) z w m small
 
-            pub missing-more : {after : List ℕ} {next : ℕ} → Wrote (pathCell (pathAt (taskOf (getD (t .tasks) n′ z)) d (getD (r .places) n′ 0))) now at after next × (next ≤ at + (1 + d))
+            pub missing-more : {after : List ℕ} {next : ℕ}
+                → Wrote (pathCell (pathAt (taskOf (getD (t .tasks) n′ z)) d (getD (r .places) n′ 0))) now at after next × (next ≤ at + (1 + d))
                 → MissTo ks i d (r .places) wit after next (n′ + 1)
             missing-more = miss-more t k i task-in d (d-bounds .0) (d-bounds .1) (r .places) wit seven-places (rooms .1) z w m
 
@@ -379,7 +386,8 @@ module _ (asked : Asked) where
 
             pub answer-unfinished : (n : ℕ) → r .ending ≡ Unfinished n → {x : Kinds.Verdict} → x ≡ saidOf (r .ending) 0 → Answered J need work wit x Z wit
             answer-unfinished n q {x} e′ =
-                ended (Unfinished n) x wit (judged-is ∙ ap (λ (y : Ending). meantBy y ws) q) (ap verdictNumbers (e′ ∙ ap (λ (y : Ending). saidOf y 0) q)) refl refl
+                ended (Unfinished n) x wit (judged-is ∙ ap (λ (y : Ending). meantBy y ws) q)
+                (ap verdictNumbers (e′ ∙ ap (λ (y : Ending). saidOf y 0) q)) refl refl
 
             pub answer-misses : (n : ℕ) → r .ending ≡ Misses n → (m : ℕ) (wit′ : List ℕ) → Wrote (cellsOf ws) wit 0 wit′ m × (m ≤ i * (1 + d))
                 → {x : Kinds.Verdict} → x ≡ saidOf (r .ending) m

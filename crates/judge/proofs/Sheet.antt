@@ -50,7 +50,8 @@ module _ (ts : Meant.Table) (i d : ℕ) (w : i ≤ length ts) where
   over k = ltb mostPaths (length (pathsOf (taskAt ts k) d))
 
   count-is : (k : ℕ) → k < i → getD ns k 0 ≡ length (pathsOf (taskAt ts k) d)
-  count-is k m = getD-mapped (λ (x : Meant.Task). length (pathsOf x d)) 0 noTask (higher ts i) k (omega (arith, many)) ∙ ap (λ (x : Meant.Task). length (pathsOf x d)) (getD-take i ts k noTask m)
+  count-is k m = getD-mapped (λ (x : Meant.Task). length (pathsOf x d)) 0 noTask (higher ts i) k (omega (arith, many))
+      ∙ ap (λ (x : Meant.Task). length (pathsOf x d)) (getD-take i ts k noTask m)
     where
       many : length (take i ts) ≡ i
       many = length-take-le i ts w
@@ -63,7 +64,8 @@ module _ (ts : Meant.Table) (i d : ℕ) (w : i ≤ length ts) where
   unfolding over
   none-crowded h = rw (those-none over 0 i (calm i (omega arith) h)) (omega arith)
 
-  pub first-crowded : (b : ℕ) → b < i → ((k : ℕ) → k < b → getD ns k 0 ≤ mostPaths) → mostPaths < getD ns b 0 → (0 < length (crowded ts i d)) × (getD (crowded ts i d) 0 0 ≡ b)
+  pub first-crowded : (b : ℕ) → b < i → ((k : ℕ) → k < b → getD ns k 0 ≤ mostPaths)
+      → mostPaths < getD ns b 0 → (0 < length (crowded ts i d)) × (getD (crowded ts i d) 0 0 ≡ b)
   unfolding over
   first-crowded b l h m =
       let z : 0 + b ≡ b = omega arith in
@@ -106,7 +108,8 @@ module _ (ts : Meant.Table) (i v b lw lx : ℕ) where
 
   pub no-vertex : length (taskAt ts i .vertices) ≤ v → J ≡ refused 8 0
   unfolding judged
-  no-vertex h = ap (λ o. unlessRefused o (walkedAt ts i v b)) (row-some r8 (r9 ∷ r10 ∷ r11 ∷ []) (rw (le-ltb v (length (taskAt ts i .vertices)) h) (ap not (and-false (ltb i (length ts))))))
+  no-vertex h = ap (λ o. unlessRefused o (walkedAt ts i v b))
+      (row-some r8 (r9 ∷ r10 ∷ r11 ∷ []) (rw (le-ltb v (length (taskAt ts i .vertices)) h) (ap not (and-false (ltb i (length ts))))))
 
   module _ (th : There) where
     past8 : firstRow (r8 ∷ r9 ∷ r10 ∷ r11 ∷ []) ≡ firstRow (r9 ∷ r10 ∷ r11 ∷ [])

@@ -4,7 +4,8 @@ use Prim.Native.Nat.{ℕ, zero, suc, _≤_}
 use native.Mathlib.Omega.{arith}
 use mathlib.Core.List.{List, [], _∷_}
 use Rattle.kinds.specs.declared.Refusal.{Refusal}
-use Rattle.kinds.specs.declared.Refusal.the-variants.{BadLine, WrongFrame, OutOfBounds, DeadlineOverSeparation, EdgeNotAfter, NoEnd, BytesAfterEnd, NoSuchVertex, TooManyPaths, WorkTooShort, WitnessTooShort, InputTooLong}
+use Rattle.kinds.specs.declared.Refusal.the-variants.{BadLine, WrongFrame, OutOfBounds, DeadlineOverSeparation, EdgeNotAfter, NoEnd, BytesAfterEnd}
+use Rattle.kinds.specs.declared.Refusal.the-variants.{NoSuchVertex, TooManyPaths, WorkTooShort, WitnessTooShort, InputTooLong}
 use Rattle.kinds.specs.declared.Verdict.{Verdict}
 use Rattle.kinds.specs.declared.Verdict.the-variants.{Meets, Misses, Unfinished, Refused}
 use Rattle.kinds.specs.Numbers.{refusalNumber, verdictNumbers}
@@ -14,7 +15,8 @@ use lib.ListN.{getD}
 abbrev pub refusalOf : ℕ → Refusal
 refusalOf n =
     getD
-    (BadLine ∷ BadLine ∷ WrongFrame ∷ OutOfBounds ∷ DeadlineOverSeparation ∷ EdgeNotAfter ∷ NoEnd ∷ BytesAfterEnd ∷ NoSuchVertex ∷ TooManyPaths ∷ WorkTooShort ∷ WitnessTooShort ∷ InputTooLong ∷ [])
+    (BadLine ∷ BadLine ∷ WrongFrame ∷ OutOfBounds ∷ DeadlineOverSeparation ∷ EdgeNotAfter ∷ NoEnd
+    ∷ BytesAfterEnd ∷ NoSuchVertex ∷ TooManyPaths ∷ WorkTooShort ∷ WitnessTooShort ∷ InputTooLong ∷ [])
     n BadLine
 
 pub refusal-of-number : (r : Refusal) → refusalOf (refusalNumber r) ≡ r
@@ -62,7 +64,8 @@ number-of-refusal (suc (suc (suc (suc (suc (suc (suc (suc k)))))))) l h = absurd
 
 -- a verdict from its numbers
 abbrev verdictOf : List ℕ → Verdict
-verdictOf ns = getD (Meets (getD ns 1 0) ∷ Misses (getD ns 1 0) (getD ns 2 0) ∷ Unfinished (getD ns 1 0) ∷ Refused (record { refusal = refusalOf (getD ns 1 0); place = getD ns 2 0 }) ∷ []) (getD ns 0 0) (Meets 0)
+verdictOf ns = getD (Meets (getD ns 1 0) ∷ Misses (getD ns 1 0) (getD ns 2 0) ∷ Unfinished (getD ns 1 0) ∷ Refused
+    (record { refusal = refusalOf (getD ns 1 0); place = getD ns 2 0 }) ∷ []) (getD ns 0 0) (Meets 0)
 
 verdict-of-numbers : (v : Verdict) → verdictOf (verdictNumbers v) ≡ v
 verdict-of-numbers (Meets c) = refl

@@ -45,7 +45,8 @@ module _ {start to p : List ℕ} {n d i : ℕ} {cs : List ℕ} {left v : ℕ} (g
   on-len : length (onBy v (ways start to p v d)) ≡ length (ways start to p v d)
   on-len = length-map (ways start to p v d) (λ (x : List ℕ). v ∷ x)
 
-  pub passing-on : v < n → (B : List ℕ) (s : Sought) (x : PathNumber) → Found start to p v d 0 left cs B s → s ≡ Behind x → Passing start to p n d i B (x .0) (v + 1)
+  pub passing-on : v < n → (B : List ℕ) (s : Sought) (x : PathNumber)
+      → Found start to p v d 0 left cs B s → s ≡ Behind x → Passing start to p n d i B (x .0) (v + 1)
   passing-on h B s x f e = elim (decLt left (length (ways start to p v d))) [
     | yes y ↦ absurd (not-both s (f .hit y .end) e)
     | no y ↦
@@ -56,12 +57,14 @@ module _ {start to p : List ℕ} {n d i : ℕ} {cs : List ℕ} {left v : ℕ} (g
         record {
           high = omega arith;
           fewer = omega arith;
-          place = sym (ap₂ (λ (b : List (List ℕ)) (j : ℕ). getD b j []) (all-ways-more start to p d v n h) z ∙ getD-append-add (onBy v (ways start to p v d)) (allWays start to p d (v + 1) n) (x .0) []) ∙ g .place;
+          place = sym (ap₂ (λ (b : List (List ℕ)) (j : ℕ). getD b j []) (all-ways-more start to p d v n h) z
+              ∙ getD-append-add (onBy v (ways start to p v d)) (allWays start to p d (v + 1) n) (x .0) []) ∙ g .place;
           cells = m .cells ∙ g .cells;
         }
   ]
 
-  pub passing-found : SoundColumns start to p → n ≤ mostVertices → 0 < d → d ≤ largestD → v < n → (B : List ℕ) (s : Sought) (len : ℕ) → Found start to p v d 0 left cs B s → s ≡ Here len
+  pub passing-found : SoundColumns start to p → n ≤ mostVertices → 0 < d → d ≤ largestD → v < n
+      → (B : List ℕ) (s : Sought) (len : ℕ) → Found start to p v d 0 left cs B s → s ≡ Here len
       → CellsOf (pathBy to (getD (allWays start to p d 0 n) i [])) B len
   passing-found so hn hd ld h B s len f e = elim (decLt left (length (ways start to p v d))) [
     | no y ↦ absurd (not-both s e (f .miss (omega arith) .left))
@@ -75,7 +78,8 @@ module _ {start to p : List ℕ} {n d i : ℕ} {cs : List ℕ} {left v : ℕ} (g
         let q : 0 + 1 + length H ≡ length (verticesBy to v H) = omega (arith, length-map H (λ (k : ℕ). getD to k 0)) in
         let l = way-short start to p so v d left (omega arith) hd y in
         let z : length (verticesBy to v H) ≤ largestD = omega arith in
-        cells-at _ B len (m .cells ∙ ap₂ (λ (a b : List ℕ). sets a 0 (pathBy to b)) (g .cells) (sym w)) (same-length s e (m .end) ∙ q ∙ ap (λ (b : List ℕ). length (pathBy to b)) (sym w))
+        cells-at _ B len (m .cells ∙ ap₂ (λ (a b : List ℕ). sets a 0 (pathBy to b)) (g .cells) (sym w))
+        (same-length s e (m .end) ∙ q ∙ ap (λ (b : List ℕ). length (pathBy to b)) (sym w))
         (subst (λ (b : List ℕ). length (pathBy to b) ≤ largestD) (sym w) z)
   ]
 

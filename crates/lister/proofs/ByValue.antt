@@ -29,10 +29,12 @@ vertices-more cells i vs l h e =
     let n : length (map vertexNumber (take i cells)) ≡ i = length-map (take i cells) vertexNumber ∙ length-take-le i cells (omega arith) in
     ap₂ (λ (a : List VertexNumber) (j : ℕ). set a j (vertexNumber (getD cells i 0))) e (sym n)
     ∙ padded-more largestD (vertexNumber 0) (map vertexNumber (take i cells)) (vertexNumber (getD cells i 0)) (omega arith)
-    ∙ ap (padded largestD (vertexNumber 0)) (sym (map-append vertexNumber (take i cells) (getD cells i 0 ∷ [])) ∙ ap (map vertexNumber) (sym (take-suc cells i 0 (omega arith)) ∙ ap (λ (j : ℕ). take j cells) (sym (add-one i))))
+    ∙ ap (padded largestD (vertexNumber 0)) (sym (map-append vertexNumber (take i cells) (getD cells i 0 ∷ []))
+    ∙ ap (map vertexNumber) (sym (take-suc cells i 0 (omega arith)) ∙ ap (λ (j : ℕ). take j cells) (sym (add-one i))))
 
 pub vertices-all : (cells : List ℕ) (i n : ℕ) (vs : List VertexNumber) → length cells ≡ largestD → n ≤ largestD → i ≡ n → vs ≡ verticesIn cells i
     → _≡_ {A = Path} (record { vertices = vs; len = n }) (pathRecord (take n cells))
 unfolding pathRecord
 vertices-all cells i n vs l h q e =
-    ap₂ {C = Path} (λ (a : List VertexNumber) (m : ℕ). record { vertices = a; len = m }) (e ∙ ap (verticesIn cells) q) (sym (length-take-le n cells (omega arith)))
+    ap₂ {C = Path} (λ (a : List VertexNumber) (m : ℕ). record { vertices = a; len = m })
+    (e ∙ ap (verticesIn cells) q) (sym (length-take-le n cells (omega arith)))

@@ -51,7 +51,8 @@ module _ {start to p : List ℕ} {v r cap end k sum : ℕ} (g : Counting start t
   }
 
   all-ways : SoundColumns start to p → length (ways start to p v r) ≡ max 1 (length (byEdges start to p r (getD start v 0) end))
-  all-ways so = length-ways start to p so v r (g .turn .vertex) (g .some) ∙ ap (λ (n : ℕ). max 1 (length (byEdges start to p r (getD start v 0) n))) (sym (g .turn .ends))
+  all-ways so = length-ways start to p so v r (g .turn .vertex) (g .some)
+      ∙ ap (λ (n : ℕ). max 1 (length (byEdges start to p r (getD start v 0) n))) (sym (g .turn .ends))
 
   module _ (x : ℕ) (h : k < end) (l : getD p k 0 < r) (ex : x ≡ min (cap - sum) (length (ways start to p (getD to k 0) (r - getD p k 0)))) where
     pub counting-on : (sum + x ≡ cap → ⊥) → Counting start to p v r cap end (k + 1) (sum + x)

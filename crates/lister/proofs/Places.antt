@@ -106,7 +106,8 @@ module _ {start to p : List ℕ} {v r i end : ℕ} {A cs : List ℕ} {k left : �
             some = g .some;
             fewer = omega arith;
             count = omega arith;
-            place = sym (ap₂ (λ (b : List (List ℕ)) (n : ℕ). getD b n []) split z ∙ getD-append-add (onBy k on) (byEdges start to p r (k + 1) end) (x .0) []) ∙ g .place;
+            place = sym (ap₂ (λ (b : List (List ℕ)) (n : ℕ). getD b n []) split z ∙ getD-append-add (onBy k on) (byEdges start to p r (k + 1) end) (x .0) [])
+                ∙ g .place;
             cells = m .cells ∙ g .cells;
           }
     ]
@@ -131,7 +132,8 @@ module _ {start to p : List ℕ} {v r i end : ℕ} {A cs : List ℕ} {k left : �
           record {
             hit = λ x. record {
               end = ap Here (same-length s e (m .end) ∙ z ∙ ap (λ (b : List ℕ). depth + 1 + length b) (sym w));
-              cells = ap (λ (b : List ℕ). set b depth v) (m .cells ∙ ap₂ (λ (b : List ℕ) (j : ℕ). sets b j (verticesBy to (getD to k 0) H)) (g .cells) (add-one depth))
+              cells = ap (λ (b : List ℕ). set b depth v)
+                  (m .cells ∙ ap₂ (λ (b : List ℕ) (j : ℕ). sets b j (verticesBy to (getD to k 0) H)) (g .cells) (add-one depth))
                   ∙ set-sets (verticesBy to (getD to k 0) H) A (suc depth) depth v (omega arith)
                   ∙ ap (λ (b : List ℕ). sets A depth (verticesBy to v b)) (sym w);
             };
@@ -146,7 +148,8 @@ module _ {start to p : List ℕ} {v r i end : ℕ} {A cs : List ℕ} {k left : �
     pub past-some : (depth : ℕ) → (left ≡ i → ⊥) → Found start to p v r depth i A cs (Behind (record { 0 = left }))
     past-some depth ne =
         let t = total in
-        let e : length (ways start to p v r) ≡ length (byEdges start to p r (getD start v 0) end) = ap length (step so ∙ orStop-some (byEdges start to p r (getD start v 0) end) (omega arith)) in
+        let e : length (ways start to p v r) ≡ length (byEdges start to p r (getD start v 0) end) =
+        ap length (step so ∙ orStop-some (byEdges start to p r (getD start v 0) end) (omega arith)) in
         record {
           hit = λ x. absurd (omega arith);
           miss = λ x. record { left = behind (omega arith); cells = g .cells };

@@ -34,7 +34,8 @@ module _ {e start to p : List ℕ} {d n : ℕ} {P part row : List ℕ} {i v : �
       let c = g .count in
       let l = all-ways-length start to p d v n h in
       let y = ap (λ (m : ℕ). length (ways start to p v m)) z in
-      subst (λ (m : ℕ). Room d (i + length (ways start to p v (d - 0))) m) (sym (g .size)) (room-less d (length (allWays start to p d 0 n)) (i + length (ways start to p v (d - 0))) (length P) r (omega arith))
+      subst (λ (m : ℕ). Room d (i + length (ways start to p v (d - 0))) m) (sym (g .size))
+      (room-less d (length (allWays start to p d 0 n)) (i + length (ways start to p v (d - 0))) (length P) r (omega arith))
 
   pub filling-on : v < n → (Q qrow : List ℕ) (r : ℕ) → RowsPut e start to p d v 0 0 i part row Q qrow r → Filling e start to p d n P Q qrow r (v + 1)
   unfolding wayRows
@@ -48,7 +49,8 @@ module _ {e start to p : List ℕ} {d n : ℕ} {P part row : List ℕ} {i v : �
       let H = ways start to p v d in
       let eQ : Q ≡ putRows d i (W (onBy v H)) part = f .rows ∙ ap (λ (m : ℕ). putRows d i (rowsBehind e to p [] m 0 v (ways start to p v m)) part) z
       ∙ ap (λ (w : List (List ℕ)). putRows d i w part) (sym (way-rows-by e to p d v H)) in
-      let lr : i + length (W (onBy v H)) ≡ r = ap (λ (m : ℕ). i + m) (length-map (onBy v H) (wayRow e to p d) ∙ length-map H (λ (x : List ℕ). v ∷ x) ∙ sym y) ∙ sym fn in
+      let lr : i + length (W (onBy v H)) ≡ r =
+      ap (λ (m : ℕ). i + m) (length-map (onBy v H) (wayRow e to p d) ∙ length-map H (λ (x : List ℕ). v ∷ x) ∙ sym y) ∙ sym fn in
       record {
         high = omega arith;
         count = omega arith;

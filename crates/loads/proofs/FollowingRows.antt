@@ -22,7 +22,8 @@ led-none e start to p d v span below row hv hs light l =
 module _ {e start to p : List ℕ} (so : SoundColumns start to p) {d v span below : ℕ} {row : List ℕ} {u s b j k : ℕ} {R : List ℕ}
     (f : FollowedRow e start to p d v span below row u s b R) (g : Turn start u j k) (ek : k ≡ getD start u 0) (one : j ≡ k + 1) (hd : d ≤ largestD)
     (t : ℕ) (et : t ≡ getD e u 0) (ht : t ≤ widest) (room : s + getD p k 0 < d) (R' : List ℕ) (eR : Run R s (s + getD p k 0) (b + t) R') where
-  put-on : (i r : ℕ) (P Q qrow : List ℕ) → RowsPut e start to p d (getD to k 0) (s + getD p k 0) (b + t) i P R' Q qrow r → RowsPut e start to p d v span below i P row Q qrow r
+  put-on : (i r : ℕ) (P Q qrow : List ℕ) → RowsPut e start to p d (getD to k 0) (s + getD p k 0) (b + t) i P R' Q qrow r
+      → RowsPut e start to p d v span below i P row Q qrow r
   put-on i r P Q qrow x =
       let w = edge-on so g (omega arith) in
       let n = going-none {e = e} so d u s b i j k P R (f .vertex) (f .room) (f .cells) (g .ends) ek in

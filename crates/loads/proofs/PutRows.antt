@@ -31,7 +31,8 @@ put-length (x ∷ xs) d n P = put-length xs d (n + 1) (sets P (2 * n * d) x) ∙
 
 -- the rows by an edge, seen from v and from where it leads
 rows-by : (e to p row : List ℕ) (room below v k : ℕ) (hs : List (List ℕ))
-    → rowsBehind e to p row room below v (onBy k hs) ≡ rowsBehind e to p (row ++ replicate (getD p k 0) (below + getD e v 0)) (room - getD p k 0) (below + getD e v 0) (getD to k 0) hs
+    → rowsBehind e to p row room below v (onBy k hs) ≡ rowsBehind e to p
+    (row ++ replicate (getD p k 0) (below + getD e v 0)) (room - getD p k 0) (below + getD e v 0) (getD to k 0) hs
 unfolding rowsBehind
 rows-by e to p row room below v k [] = refl
 rows-by e to p row room below v k (h ∷ hs) =
@@ -75,7 +76,8 @@ pub record Going (e start to p : List ℕ) (d v span below i end : ℕ) (P row�
   pub cells : length row ≡ largestD
   pub size : length part ≡ length P
 
-module _ {e start to p : List ℕ} {d v span below i end : ℕ} {P row₀ part row : List ℕ} {k n : ℕ} (g : Going e start to p d v span below i end P row₀ part row k n) where
+module _ {e start to p : List ℕ} {d v span below i end : ℕ} {P row₀ part row : List ℕ} {k n : ℕ}
+    (g : Going e start to p d v span below i end P row₀ part row k n) where
   pub going-skip : k < end → d ≤ span + getD p k 0 → Going e start to p d v span below i end P row₀ part row (k + 1) n
   going-skip h l =
       let s = step-no start to p (d - span) k end h (omega arith) in
@@ -90,7 +92,8 @@ module _ {e start to p : List ℕ} {d v span below i end : ℕ} {P row₀ part r
         size = g .size;
       }
 
-  pub going-by : k < end → span + getD p k 0 < d → d ≤ largestD → (row1 : List ℕ) → row1 ≡ sets row span (replicate (span + getD p k 0 - span) (below + getD e v 0))
+  pub going-by : k < end → span + getD p k 0 < d → d ≤ largestD → (row1 : List ℕ)
+      → row1 ≡ sets row span (replicate (span + getD p k 0 - span) (below + getD e v 0))
       → (Q qrow : List ℕ) (r : ℕ) → RowsPut e start to p d (getD to k 0) (span + getD p k 0) (below + getD e v 0) n part row1 Q qrow r
       → Going e start to p d v span below i end P row₀ Q qrow (k + 1) r
   unfolding rowsBehind
@@ -103,9 +106,11 @@ module _ {e start to p : List ℕ} {d v span below i end : ℕ} {P row₀ part r
       let z : d - (span + getD p k 0) ≡ d - span - getD p k 0 = omega arith in
       let y : span + getD p k 0 - span ≡ getD p k 0 = omega arith in
       let len : length (byEdges start to p (d - span) k end) ≡ length H + length (byEdges start to p (d - span) (k + 1) end) =
-      length-yes start to p (d - span) k end h (omega arith) ∙ ap (λ (m : ℕ). length (ways start to p (getD to k 0) m) + length (byEdges start to p (d - span) (k + 1) end)) (sym z) in
+      length-yes start to p (d - span) k end h (omega arith)
+      ∙ ap (λ (m : ℕ). length (ways start to p (getD to k 0) m) + length (byEdges start to p (d - span) (k + 1) end)) (sym z) in
       let st : byEdges start to p (d - span) k end ≡ onBy k H ++ byEdges start to p (d - span) (k + 1) end =
-      step-yes start to p (d - span) k end h (omega arith) ∙ ap (λ (m : ℕ). onBy k (ways start to p (getD to k 0) m) ++ byEdges start to p (d - span) (k + 1) end) (sym z) in
+      step-yes start to p (d - span) k end h (omega arith)
+      ∙ ap (λ (m : ℕ). onBy k (ways start to p (getD to k 0) m) ++ byEdges start to p (d - span) (k + 1) end) (sym z) in
       let t1 : take (span + getD p k 0) row1 ≡ take span row ++ replicate (span + getD p k 0 - span) (below + getD e v 0) =
       run-take row row1 span (span + getD p k 0) (below + getD e v 0) (omega arith) (omega arith) ep in
       let t2 : take (span + getD p k 0) row1 ≡ take span row₀ ++ replicate (getD p k 0) (below + getD e v 0) =
@@ -115,7 +120,8 @@ module _ {e start to p : List ℕ} {d v span below i end : ℕ} {P row₀ part r
       rows-by e to p (take span row₀) (d - span) below v k H
       ∙ ap₂ (λ (w : List ℕ) (m : ℕ). rowsBehind e to p w m (below + getD e v 0) (getD to k 0) H) (sym t2) (sym z) in
       let lr : n + length (R (onBy k H)) ≡ r =
-      ap (λ (m : ℕ). n + m) (length-map (onBy k H) (λ (x : List ℕ). take span row₀ ++ runs e to p (d - span) below v x) ∙ length-map H (λ (x : List ℕ). k ∷ x)) ∙ sym fn in
+      ap (λ (m : ℕ). n + m) (length-map (onBy k H) (λ (x : List ℕ). take span row₀ ++ runs e to p (d - span) below v x) ∙ length-map H (λ (x : List ℕ). k ∷ x))
+      ∙ sym fn in
       let eQ : Q ≡ putRows d n (R (onBy k H)) part = f .rows ∙ ap (λ (w : List (List ℕ)). putRows d n w part) (sym rb) in
       record {
         turn = turn-next (g .turn) h;
@@ -124,7 +130,8 @@ module _ {e start to p : List ℕ} {d v span below i end : ℕ} {P row₀ part r
         count = omega arith;
         rows = ap₂ (λ (m : ℕ) (w : List ℕ). putRows d m (R (byEdges start to p (d - span) (k + 1) end)) w) (sym lr) eQ
             ∙ sym (put-append (R (onBy k H)) (R (byEdges start to p (d - span) (k + 1) end)) d n part)
-            ∙ ap (λ (w : List (List ℕ)). putRows d n w part) (sym (map-append (λ (x : List ℕ). take span row₀ ++ runs e to p (d - span) below v x) (onBy k H) (byEdges start to p (d - span) (k + 1) end)))
+            ∙ ap (λ (w : List (List ℕ)). putRows d n w part)
+            (sym (map-append (λ (x : List ℕ). take span row₀ ++ runs e to p (d - span) below v x) (onBy k H) (byEdges start to p (d - span) (k + 1) end)))
             ∙ ap (λ (w : List (List ℕ)). putRows d n (R w) part) (sym st)
             ∙ g .rows;
         prefix = run-keeps row qrow span (span + getD p k 0) (below + getD e v 0) (omega arith) (omega arith) (f .prefix ∙ t1) ∙ g .prefix;
@@ -143,7 +150,8 @@ module _ {e start to p : List ℕ} {d v span below i end : ℕ} {P row₀ part r
   step : SoundColumns start to p → ways start to p v (d - span) ≡ orStop (byEdges start to p (d - span) (getD start v 0) end)
   step so =
       let h = g .some in
-      ways-step start to p so v (d - span) (g .turn .vertex) (omega arith) ∙ ap (λ (m : ℕ). orStop (byEdges start to p (d - span) (getD start v 0) m)) (sym (g .turn .ends))
+      ways-step start to p so v (d - span) (g .turn .vertex) (omega arith)
+      ∙ ap (λ (m : ℕ). orStop (byEdges start to p (d - span) (getD start v 0) m)) (sym (g .turn .ends))
 
   -- there is room for the rows of the edge at k, where there is for those from w, which led here
   pub going-room : SoundColumns start to p → k < end → span + getD p k 0 < d
@@ -162,7 +170,8 @@ module _ {e start to p : List ℕ} {d v span below i end : ℕ} {P row₀ part r
   module _ (so : SoundColumns start to p) (hk : end ≤ k) where
     pub done-rows : part ≡ putRows d i (rowsBehind e to p (take span row₀) (d - span) below v (byEdges start to p (d - span) (getD start v 0) end)) P
     unfolding rowsBehind putRows
-    done-rows = ap (λ (w : List (List ℕ)). putRows d n (rowsBehind e to p (take span row₀) (d - span) below v w) part) (sym (by-edges-none start to p (d - span) k end hk)) ∙ g .rows
+    done-rows = ap (λ (w : List (List ℕ)). putRows d n (rowsBehind e to p (take span row₀) (d - span) below v w) part)
+        (sym (by-edges-none start to p (d - span) k end hk)) ∙ g .rows
 
     pub done-count : n ≡ i + length (byEdges start to p (d - span) (getD start v 0) end)
     done-count = omega (arith, ap length (by-edges-none start to p (d - span) k end hk), g .count)
@@ -170,7 +179,8 @@ module _ {e start to p : List ℕ} {d v span below i end : ℕ} {P row₀ part r
     pub put-some : (n ≡ i → ⊥) → RowsPut e start to p d v span below i P row₀ part row n
     put-some ne =
         let c = done-count in
-        let q : ways start to p v (d - span) ≡ byEdges start to p (d - span) (getD start v 0) end = step so ∙ orStop-some (byEdges start to p (d - span) (getD start v 0) end) (omega arith) in
+        let q : ways start to p v (d - span) ≡ byEdges start to p (d - span) (getD start v 0) end =
+        step so ∙ orStop-some (byEdges start to p (d - span) (getD start v 0) end) (omega arith) in
         record {
           next = c ∙ ap (λ (w : List (List ℕ)). i + length w) (sym q);
           rows = done-rows ∙ ap (λ (w : List (List ℕ)). putRows d i (rowsBehind e to p (take span row₀) (d - span) below v w) P) (sym q);
@@ -199,7 +209,8 @@ module _ {e start to p : List ℕ} {d v span below i end : ℕ} {P row₀ part r
           cells = ap length ep ∙ length-sets row span (replicate (d - span) (below + getD e v 0)) ∙ w;
         }
 
-pub going-none : {e start to p : List ℕ} → SoundColumns start to p → (d v span below i end k : ℕ) (P row : List ℕ) → v < mostVertices → span < d → length row ≡ largestD
+pub going-none : {e start to p : List ℕ} → SoundColumns start to p
+    → (d v span below i end k : ℕ) (P row : List ℕ) → v < mostVertices → span < d → length row ≡ largestD
     → end ≡ getD start (v + 1) 0 → k ≡ getD start v 0 → Going e start to p d v span below i end P row P row k i
 going-none {e} {start} {to} {p} so d v span below i end k P row hv hs c he h = record {
   turn = turn-first so v end k hv he h;

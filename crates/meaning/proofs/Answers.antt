@@ -17,7 +17,8 @@ use Rattle.meaning.proofs.Lists.{mem-take}
 use Rattle.meaning.proofs.Few.{count-P}
 use Rattle.meaning.proofs.Choices.{top-full}
 use Rattle.meaning.proofs.Refusals.{larger-none}
-use Rattle.meaning.proofs.Verdicts.{W, Given, witness-has, witness-first, first-overloads, decided-misses, decided-meets, judged-enough, judged-short, judged-given, judged-unfinished}
+use Rattle.meaning.proofs.Verdicts.{W, Given, witness-has, witness-first, first-overloads, decided-misses, decided-meets, judged-enough, judged-short}
+use Rattle.meaning.proofs.Verdicts.{judged-given, judged-unfinished}
 
 -- no refusal of 8 to 11 applies
 abbrev pub Admitted : Table → ℕ → ℕ → ℕ → ℕ → Type 0
@@ -37,7 +38,8 @@ module _ (text : List ℕ) (ts : Table) (q : read text ≡ readable ts) (i v : �
   unfinished-short b work wit n a = judged-unfinished ts i v b work wit n (sym (answer-is b work wit) ∙ a)
 
   -- once given, for good
-  pub given-lasts : (b b′ work work′ wit wit′ : ℕ) → b ≤ b′ → work ≤ work′ → wit ≤ wit′ → Given (answer text i v b work wit) → answer text i v b′ work′ wit′ ≡ answer text i v b work wit
+  pub given-lasts : (b b′ work work′ wit wit′ : ℕ) → b ≤ b′ → work ≤ work′ → wit ≤ wit′
+      → Given (answer text i v b work wit) → answer text i v b′ work′ wit′ ≡ answer text i v b work wit
   given-lasts b b′ work work′ wit wit′ h k l g =
       let r = judged-given ts i v b work wit (answer text i v b work wit) (sym (answer-is b work wit)) g in
       answer-is b′ work′ wit′ ∙ judged-enough ts i v b′ work′ wit′ (larger-none ts i v work work′ wit wit′ k l (r .0)) (le-trans (r .1) h) ∙ r .2
@@ -56,7 +58,8 @@ module _ (text : List ℕ) (ts : Table) (q : read text ≡ readable ts) (i v : �
         let m = decided-meets (C ts i v) (W ts i v) c (g .2) in
         (λ o. let w = witness-has ts i v s o in let e : some (w .0) ≡ none = sym (w .1) ∙ m .0 in let z : _≡_ {A = ℕ} 0 1 = cc in omega arith, m .1)
 
-    pub overload-misses : (b work wit : ℕ) → Admitted ts i v work wit → C ts i v ≤ b → Overloadable ts i v → (ws : List Path) × (answer text i v b work wit ≡ misses (C ts i v) ws)
+    pub overload-misses : (b work wit : ℕ) → Admitted ts i v work wit → C ts i v ≤ b
+        → Overloadable ts i v → (ws : List Path) × (answer text i v b work wit ≡ misses (C ts i v) ws)
     overload-misses b work wit r h o =
         let w = witness-has ts i v s o in
         (pathsIn (w .0), answer-is b work wit ∙ judged-enough ts i v b work wit r h ∙ ap (decided (C ts i v)) (w .1))

@@ -36,13 +36,15 @@ pub in-completes : (d : ℕ) (ks : List Task) (c : List Listed) → In c (topOf 
 in-completes d [] [] p = tt
 in-completes d [] (x ∷ c) p = absurd p
 in-completes d (k ∷ ks) [] p = absurd p
-in-completes d (k ∷ ks) (x ∷ c) p = let r = listed-mem d k (p .0) in (subst (λ (y : Listed). List·Memᴰ (y .path) (pathsOf k d)) (r .2) (r .1), in-completes d ks c (p .1))
+in-completes d (k ∷ ks) (x ∷ c) p = let r = listed-mem d k (p .0) in
+    (subst (λ (y : Listed). List·Memᴰ (y .path) (pathsOf k d)) (r .2) (r .1), in-completes d ks c (p .1))
 
 pub completes-in : (d : ℕ) (ks : List Task) (ws : List Path) → Completes d ks ws → (c : List Listed) × In c (topOf ks d) × (pathsIn c ≡ ws)
 completes-in d [] [] p = ([], tt, refl)
 completes-in d [] (w ∷ ws) p = absurd p
 completes-in d (k ∷ ks) [] p = absurd p
-completes-in d (k ∷ ks) (w ∷ ws) p = let r = completes-in d ks ws (p .1) in (put k w ∷ r .0, (Memᴰ·map (put k) (p .0), r .1), ap (λ (l : List Path). w ∷ l) (r .2))
+completes-in d (k ∷ ks) (w ∷ ws) p = let r = completes-in d ks ws (p .1) in
+    (put k w ∷ r .0, (Memᴰ·map (put k) (p .0), r .1), ap (λ (l : List Path). w ∷ l) (r .2))
 
 pub completes-legal : (d : ℕ) (ks : List Task) (ws : List Path) → Completes d ks ws → Legals ks ws
 completes-legal d [] [] p = tt
@@ -94,7 +96,8 @@ rising-all : (r : List Listed) (cs : List (List Listed)) → Rising (λ (x y : L
     → Rising Earlier (gather (λ (x : Listed). map (λ (c : List Listed). x ∷ c) cs) r)
 rising-all [] cs h s = tt
 rising-all (x ∷ r) cs h s =
-    rising-append Earlier (map (λ (c : List Listed). x ∷ c) cs) (gather (λ (y : Listed). map (λ (c : List Listed). y ∷ c) cs) r) (rising-begun x cs s) (rising-all r cs (h .1) s)
+    rising-append Earlier (map (λ (c : List Listed). x ∷ c) cs)
+    (gather (λ (y : Listed). map (λ (c : List Listed). y ∷ c) cs) r) (rising-begun x cs s) (rising-all r cs (h .1) s)
     (λ a b m n.
     let i = Memᴰ·of-map (λ (q : List Listed). x ∷ q) cs m in
     let j = gather-mem (λ (y : Listed). map (λ (c : List Listed). y ∷ c) cs) r n in
@@ -104,7 +107,8 @@ rising-all (x ∷ r) cs h s =
 pub rising-choices : (d : ℕ) (ks : List Task) → AllSound ks → Rising Earlier (choices (topOf ks d))
 rising-choices d [] s = rising-one Earlier []
 rising-choices d (k ∷ ks) s =
-    rising-all (listed d k) (choices (topOf ks d)) (rising-listed k (pathsOf k d) (paths-rising k (s k (List·Memᴰ·head refl)) d)) (rising-choices d ks (λ j m. s j (List·Memᴰ·tail m)))
+    rising-all (listed d k) (choices (topOf ks d)) (rising-listed k (pathsOf k d) (paths-rising k (s k (List·Memᴰ·head refl)) d))
+    (rising-choices d ks (λ j m. s j (List·Memᴰ·tail m)))
 
 -- ---- the top group has a path of each task
 

@@ -54,7 +54,8 @@ module _ (k : Task) (sp : Spaced k) where
       go (link-edge k v u (both-left (ltb 0 (length (between k v u))) (linked k u w) (f .links))) (λ x a b. lists n (room - x .p) u w a b)
     where
       go : (x : Edge) × List·Memᴰ x (outOf k v) × (x .to ≡ u) × (x .p ≡ separation k v u)
-          → ((x : Edge) → room - x .p ≤ n → Fits k (room - x .p) u w → List·Memᴰ (u ∷ w) (pathsFrom k n (room - x .p) u)) → List·Memᴰ (v ∷ u ∷ w) (pathsFrom k (suc n) room v)
+          → ((x : Edge) → room - x .p ≤ n → Fits k (room - x .p) u w → List·Memᴰ (u ∷ w) (pathsFrom k n (room - x .p) u))
+          → List·Memᴰ (v ∷ u ∷ w) (pathsFrom k (suc n) room v)
       go (x, m, q, r) ih =
           let one : 1 ≤ x .p = out-spaced k sp v m in
           let short = f .short in
@@ -63,15 +64,18 @@ module _ (k : Task) (sp : Spaced k) where
             short = omega arith;
             last = λ y j. omega (arith, f .last y j);
           }) in
-          alone-mem v (onward k n room v) (mem-onward k n room v x m (omega arith) (subst (λ (z : ℕ). List·Memᴰ (u ∷ w) (pathsFrom k n (room - x .p) z)) (sym q) rest))
+          alone-mem v (onward k n room v)
+          (mem-onward k n room v x m (omega arith) (subst (λ (z : ℕ). List·Memᴰ (u ∷ w) (pathsFrom k n (room - x .p) z)) (sym q) rest))
 
   module _ (fn : Fanned k) where
     fits : (n room v : ℕ) {c : Path} → 1 ≤ room → room ≤ n → List·Memᴰ c (pathsFrom k n room v) → (w : Path) × (c ≡ v ∷ w) × Fits k room v w
     fits zero room v o h m = absurd (omega arith)
     fits (suc n) room v {c} o h m = go (λ x q a b j. fits n (room - x .p) (x .to) {c = q} a b j) (alone-cases v (onward k n room v) m)
       where
-        go : ((x : Edge) (q : Path) → 1 ≤ room - x .p → room - x .p ≤ n → List·Memᴰ q (pathsFrom k n (room - x .p) (x .to)) → (w : Path) × (q ≡ x .to ∷ w) × Fits k (room - x .p) (x .to) w)
-            → ((onward k n room v ≡ []) × (c ≡ v ∷ [])) ⊎ ((q : Path) × List·Memᴰ q (onward k n room v) × (c ≡ v ∷ q)) → (w : Path) × (c ≡ v ∷ w) × Fits k room v w
+        go : ((x : Edge) (q : Path) → 1 ≤ room - x .p → room - x .p ≤ n → List·Memᴰ q (pathsFrom k n (room - x .p) (x .to))
+            → (w : Path) × (q ≡ x .to ∷ w) × Fits k (room - x .p) (x .to) w)
+            → ((onward k n room v ≡ []) × (c ≡ v ∷ [])) ⊎ ((q : Path) × List·Memᴰ q (onward k n room v) × (c ≡ v ∷ q))
+            → (w : Path) × (c ≡ v ∷ w) × Fits k room v w
         go ih (inl (z, e)) = ([], e, record { links = tt; short = omega arith; last = nil-stuck k n room v z })
         go ih (inr (q, j, e)) =
             let r = onward-mem k n room v j in
@@ -113,7 +117,8 @@ test-fits k d v w t =
       record {
         links = both-right (ltb v (length (k .vertices))) (linked k v w) l;
         short = ltb→lt (spanOn k v w) d (both-left (ltb (spanOn k v w) d) late c);
-        last = λ x m. leb→le d (spanOn k v w + x .p) (all-mem (λ (y : Edge). leb d (spanOn k v w + y .p)) (outOf k (lastOn v w)) (both-right (ltb (spanOn k v w) d) late c) m);
+        last = λ x m. leb→le d (spanOn k v w + x .p)
+            (all-mem (λ (y : Edge). leb d (spanOn k v w + y .p)) (outOf k (lastOn v w)) (both-right (ltb (spanOn k v w) d) late c) m);
       },
     )
 
@@ -142,4 +147,5 @@ module _ (k : Task) (sp : Spaced k) (fn : Fanned k) (d : ℕ) (o : 1 ≤ d) wher
 
   -- so the document settles the list: any list in order of the legal complete paths is this one
   pub listed-settled : (ws : List Path) → Rising Before ws → ((c : Path) → List·Memᴰ c ws ↔ T (legal k c && complete k d c)) → ws ≡ completePaths k d
-  listed-settled ws r h = rising-same Before before-asym before-irrefl ws (completePaths k d) r (rising-complete k fn d) (λ c m. listed-all c (h c .0 m)) (λ c m. h c .1 (listed-only c m))
+  listed-settled ws r h = rising-same Before before-asym before-irrefl ws (completePaths k d) r
+      (rising-complete k fn d) (λ c m. listed-all c (h c .0 m)) (λ c m. h c .1 (listed-only c m))

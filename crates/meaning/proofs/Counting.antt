@@ -32,7 +32,8 @@ module _ {X : Type 0} (load : X → ℕ → ℕ) (e d : ℕ) where
   -- no witness at or below a group that does not overload
   quiet : (n : ℕ) (parents : List (List (List X))) (g : List (List X)) → ov g ≡ false → any isW (groupsFrom n parents g) ≡ false
   quiet zero parents g h = ap (λ (b : Bool). b || false) (not-witness parents g h)
-  quiet (suc n) parents g h = go (quiet n (g ∷ parents) (firstChild g) (quiet-child first-part load e d g h)) (quiet n (g ∷ parents) (secondChild g) (quiet-child second-part load e d g h)) (single g) refl
+  quiet (suc n) parents g h = go (quiet n (g ∷ parents) (firstChild g) (quiet-child first-part load e d g h))
+      (quiet n (g ∷ parents) (secondChild g) (quiet-child second-part load e d g h)) (single g) refl
     where
       go : any isW (groupsFrom n (g ∷ parents) (firstChild g)) ≡ false → any isW (groupsFrom n (g ∷ parents) (secondChild g)) ≡ false
           → (b : Bool) → single g ≡ b → any isW (groupsFrom (suc n) parents g) ≡ false
@@ -57,13 +58,15 @@ module _ {X : Type 0} (load : X → ℕ → ℕ) (e d : ℕ) where
       go true h false q = rw (sides-out load e d g q) (rw q)
   finds (suc n) parents g = go (finds n (g ∷ parents) (firstChild g)) (finds n (g ∷ parents) (secondChild g)) (ov g) refl (single g) refl
     where
-      go : any isW (groupsFrom n (g ∷ parents) (firstChild g)) ≡ isSome (sidesFrom load e d n (firstChild g) .found) → any isW (groupsFrom n (g ∷ parents) (secondChild g)) ≡ isSome (sidesFrom load e d n (secondChild g) .found)
+      go : any isW (groupsFrom n (g ∷ parents) (firstChild g)) ≡ isSome (sidesFrom load e d n (firstChild g) .found)
+          → any isW (groupsFrom n (g ∷ parents) (secondChild g)) ≡ isSome (sidesFrom load e d n (secondChild g) .found)
           → (b : Bool) → ov g ≡ b → (c : Bool) → single g ≡ c → any isW (groupsFrom (suc n) parents g) ≡ isSome (sidesFrom load e d (suc n) g .found)
       go l r false h c q = quiet (suc n) parents g h ∙ rw (sides-quiet load e d (suc n) g h)
       go l r true h true q = rw (sides-hit load e d (suc n) g h q, groups-single (suc n) parents g q) (rw (q, h))
       go l r true h false q =
           rw (sides-split load e d n g h q, groups-split n parents g q)
-          (rw q (any-append isW (groupsFrom n (g ∷ parents) (firstChild g)) (groupsFrom n (g ∷ parents) (secondChild g)) ∙ ap₂ _||_ l r ∙ sym (some-or (sidesFrom load e d n (firstChild g) .found) (sidesFrom load e d n (secondChild g) .found))))
+          (rw q (any-append isW (groupsFrom n (g ∷ parents) (firstChild g)) (groupsFrom n (g ∷ parents) (secondChild g)) ∙ ap₂ _||_ l r
+          ∙ sym (some-or (sidesFrom load e d n (firstChild g) .found) (sidesFrom load e d n (secondChild g) .found))))
 
   -- ---- what is below a group that does not overload is not counted
 
@@ -79,7 +82,8 @@ module _ {X : Type 0} (load : X → ℕ → ℕ) (e d : ℕ) where
       go : T (noneOf reached (groupsFrom n (g ∷ parents) (firstChild g))) → T (noneOf reached (groupsFrom n (g ∷ parents) (secondChild g)))
           → (b : Bool) → single g ≡ b → T (noneOf reached (groupsFrom (suc n) parents g))
       go l r true q = rw (groups-single (suc n) parents g q) (rw h tt)
-      go l r false q = rw (groups-split n parents g q) (rw h (noneOf-append reached (groupsFrom n (g ∷ parents) (firstChild g)) (groupsFrom n (g ∷ parents) (secondChild g)) l r))
+      go l r false q = rw (groups-split n parents g q)
+          (rw h (noneOf-append reached (groupsFrom n (g ∷ parents) (firstChild g)) (groupsFrom n (g ∷ parents) (secondChild g)) l r))
 
   -- ---- the count is what the recursion sees
 
@@ -93,7 +97,8 @@ module _ {X : Type 0} (load : X → ℕ → ℕ) (e d : ℕ) where
       go true q = rw (q, upTo) (rw k)
       go false q = rw (q, upTo) (rw k)
 
-  counted-on : (parents : List (List (List X))) (g : List (List X)) (qs : List (Placed X)) → all ov parents ≡ true → isW (put parents g) ≡ false → counted (put parents g ∷ qs) ≡ suc (counted qs)
+  counted-on : (parents : List (List (List X))) (g : List (List X)) (qs : List (Placed X))
+      → all ov parents ≡ true → isW (put parents g) ≡ false → counted (put parents g ∷ qs) ≡ suc (counted qs)
   counted-on parents g qs k q = rw (q, upTo) (rw k)
 
   unless-some : (a : Option (List X)) (n : ℕ) → isSome a ≡ true → unless a n ≡ 0
@@ -129,7 +134,8 @@ module _ {X : Type 0} (load : X → ℕ → ℕ) (e d : ℕ) where
       go true h false q = rw (sides-out load e d g q)
   sees (suc n) parents g k = go (λ m. sees n (g ∷ parents) (firstChild g) m) (λ m. sees n (g ∷ parents) (secondChild g) m) (ov g) refl (single g) refl
     where
-      go : (all ov (g ∷ parents) ≡ true → counted (groupsFrom n (g ∷ parents) (firstChild g)) ≡ sidesFrom load e d n (firstChild g) .seen) → (all ov (g ∷ parents) ≡ true → counted (groupsFrom n (g ∷ parents) (secondChild g)) ≡ sidesFrom load e d n (secondChild g) .seen)
+      go : (all ov (g ∷ parents) ≡ true → counted (groupsFrom n (g ∷ parents) (firstChild g)) ≡ sidesFrom load e d n (firstChild g) .seen)
+          → (all ov (g ∷ parents) ≡ true → counted (groupsFrom n (g ∷ parents) (secondChild g)) ≡ sidesFrom load e d n (secondChild g) .seen)
           → (b : Bool) → ov g ≡ b → (c : Bool) → single g ≡ c → counted (groupsFrom (suc n) parents g) ≡ sidesFrom load e d (suc n) g .seen
       go l r false h true q = rw (groups-single (suc n) parents g q, sides-quiet load e d (suc n) g h) (counted-one parents g k)
       go l r false h false q =
@@ -137,13 +143,18 @@ module _ {X : Type 0} (load : X → ℕ → ℕ) (e d : ℕ) where
           rw (groups-split n parents g q, sides-quiet load e d (suc n) g h)
           (counted-on parents g (under n parents g) k (not-witness parents g h)
           ∙ ap suc (none-kept reached isW (under n parents g)
-          (noneOf-append reached (groupsFrom n (g ∷ parents) (firstChild g)) (groupsFrom n (g ∷ parents) (secondChild g)) (blocked n (g ∷ parents) (firstChild g) m) (blocked n (g ∷ parents) (secondChild g) m))))
+          (noneOf-append reached (groupsFrom n (g ∷ parents) (firstChild g)) (groupsFrom n (g ∷ parents) (secondChild g))
+          (blocked n (g ∷ parents) (firstChild g) m) (blocked n (g ∷ parents) (secondChild g) m))))
       go l r true h true q = rw (groups-single (suc n) parents g q, sides-hit load e d (suc n) g h q) (counted-one parents g k)
       go l r true h false q =
           let m : all ov (g ∷ parents) ≡ true = ap (λ (b : Bool). b && all ov parents) h ∙ k in
           rw (groups-split n parents g q, sides-split load e d n g h q)
           (counted-on parents g (under n parents g) k (ap (λ (b : Bool). b && ov g) q)
-          ∙ omega (arith, counted-sides (groupsFrom n (g ∷ parents) (firstChild g)) (groupsFrom n (g ∷ parents) (secondChild g)) (sidesFrom load e d n (firstChild g)) (sidesFrom load e d n (secondChild g)) (finds n (g ∷ parents) (firstChild g)) (l m) (r m)))
+          ∙ omega (
+            arith,
+            counted-sides (groupsFrom n (g ∷ parents) (firstChild g)) (groupsFrom n (g ∷ parents) (secondChild g))
+                (sidesFrom load e d n (firstChild g)) (sidesFrom load e d n (secondChild g)) (finds n (g ∷ parents) (firstChild g)) (l m) (r m),
+          ))
 
   -- C is what the recursion sees
   pub count-sides : (top : List (List X)) → count load e d top ≡ sidesFrom load e d (sum (map length top)) top .seen

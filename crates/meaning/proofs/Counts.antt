@@ -65,7 +65,8 @@ kept-decided : (c : ℕ) (o : Option (List Listed)) → Kept (decided c o) (deci
 kept-decided c none = refl
 kept-decided c (some x) = refl
 
-kept-budgeted : (b b′ c : ℕ) (o : Option (List Listed)) → b ≤ b′ → Kept (pick (ltb b c) (unfinished b) (decided c o)) (pick (ltb b′ c) (unfinished b′) (decided c o))
+kept-budgeted : (b b′ c : ℕ) (o : Option (List Listed)) → b ≤ b′
+    → Kept (pick (ltb b c) (unfinished b) (decided c o)) (pick (ltb b′ c) (unfinished b′) (decided c o))
 kept-budgeted b b′ c o h =
     elim (decLt b c) [ yes k ↦ rw (lt-ltb b c k) tt | no k ↦ rw (le-ltb b c (omega arith), le-ltb b′ c (omega arith)) (kept-decided c o) ]
 

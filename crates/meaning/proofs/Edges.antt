@@ -66,7 +66,8 @@ on-by k v x w q m h l = subst (λ (z : Path). T (linked k v z)) (sym h) (both (l
 
 -- ---- at most one edge from a vertex to a vertex
 
-same-key : {A : Type 0} (key : A → ℕ) (xs : List A) → Rising (λ (x y : A). key x < key y) xs → {x y : A} → List·Memᴰ x xs → List·Memᴰ y xs → key x ≡ key y → x ≡ y
+same-key : {A : Type 0} (key : A → ℕ) (xs : List A) → Rising (λ (x y : A). key x < key y) xs
+    → {x y : A} → List·Memᴰ x xs → List·Memᴰ y xs → key x ≡ key y → x ≡ y
 same-key key [] r m n q = absurd (List·Memᴰ·not-nil m)
 same-key key (z ∷ zs) r (List·Memᴰ·head a) (List·Memᴰ·head b) q = a ∙ sym b
 same-key key (z ∷ zs) r {x} {y} (List·Memᴰ·head a) (List·Memᴰ·tail n) q = absurd (omega (arith, r .0 y n, ap key a))

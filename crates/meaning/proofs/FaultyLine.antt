@@ -5,7 +5,8 @@ use native.Mathlib.Omega.{arith}
 use mathlib.Core.List.{List, [], _∷_}
 use lib.ListN.{take}
 use Rattle.meaning.specs.Table.{Table}
-use Rattle.meaning.specs.Text.{Line, linesOf, frameOf, Begun, nothing, Step, on, over, wrong, stepAt, Reading, readable, unreadable, atEnd, readFrom, read}
+use Rattle.meaning.specs.Text.{Line, linesOf, frameOf, Begun, nothing, Step, on, over, wrong, stepAt, Reading, readable, unreadable, atEnd, readFrom}
+use Rattle.meaning.specs.Text.{read}
 use Rattle.meaning.specs.Texts.{FirstFaulty}
 use Rattle.meaning.proofs.Readable.{readStep, step-read, read-refused}
 

@@ -53,7 +53,8 @@ module _ {Y : Type 0} where
   firstThat-append f [] ys = refl
   firstThat-append f (x ∷ xs) ys = go (firstThat-append f xs ys) (f x) refl
     where
-      go : firstThat f (xs ++ ys) ≡ orElse (firstThat f xs) (firstThat f ys) → (b : Bool) → f x ≡ b → firstThat f (x ∷ xs ++ ys) ≡ orElse (firstThat f (x ∷ xs)) (firstThat f ys)
+      go : firstThat f (xs ++ ys) ≡ orElse (firstThat f xs) (firstThat f ys) → (b : Bool)
+          → f x ≡ b → firstThat f (x ∷ xs ++ ys) ≡ orElse (firstThat f (x ∷ xs)) (firstThat f ys)
       go ih true q = rw (q, firstThat)
       go ih false q = rw (q, firstThat) ih
 
@@ -65,7 +66,8 @@ module _ {Y : Type 0} where
   those-append f [] ys = refl
   those-append f (x ∷ xs) ys = go (those-append f xs ys) (f x)
     where
-      go : those f (xs ++ ys) ≡ those f xs ++ those f ys → (b : Bool) → pick b (x ∷ those f (xs ++ ys)) (those f (xs ++ ys)) ≡ pick b (x ∷ those f xs) (those f xs) ++ those f ys
+      go : those f (xs ++ ys) ≡ those f xs ++ those f ys → (b : Bool)
+          → pick b (x ∷ those f (xs ++ ys)) (those f (xs ++ ys)) ≡ pick b (x ∷ those f xs) (those f xs) ++ those f ys
       go ih true = ap (λ (l : List Y). x ∷ l) ih
       go ih false = ih
 
@@ -75,7 +77,8 @@ module _ {Y : Type 0} where
 
   pub noneOf-append : (f : Y → Bool) (xs ys : List Y) → T (noneOf f xs) → T (noneOf f ys) → T (noneOf f (xs ++ ys))
   noneOf-append f [] ys p q = q
-  noneOf-append f (x ∷ xs) ys p q = both (not (f x)) (noneOf f (xs ++ ys)) (both-left (not (f x)) (noneOf f xs) p) (noneOf-append f xs ys (both-right (not (f x)) (noneOf f xs) p) q)
+  noneOf-append f (x ∷ xs) ys p q = both (not (f x)) (noneOf f (xs ++ ys))
+      (both-left (not (f x)) (noneOf f xs) p) (noneOf-append f xs ys (both-right (not (f x)) (noneOf f xs) p) q)
 
   -- of the front up to a witness, as of the whole
   pub none-kept : (p f : Y → Bool) (xs : List Y) → T (noneOf p xs) → length (those p (upTo f xs)) ≡ 0
@@ -105,7 +108,8 @@ module _ {Y : Type 0} where
       go ih false h = let r = ih (rw (h, firstThat) at q) in (List·Memᴰ·tail (r .0), r .1)
 
   -- what passes stands no earlier than the first that passes; so there is one
-  pub first-least : (f : Y → Bool) (R : Y → Y → Type 0) {y : Y} (ys : List Y) → Rising R ys → List·Memᴰ y ys → T (f y) → (x : Y) × (firstThat f ys ≡ some x) × ((x ≡ y) ⊎ R x y)
+  pub first-least : (f : Y → Bool) (R : Y → Y → Type 0) {y : Y} (ys : List Y) → Rising R ys
+      → List·Memᴰ y ys → T (f y) → (x : Y) × (firstThat f ys ≡ some x) × ((x ≡ y) ⊎ R x y)
   first-least f R [] r m t = absurd (List·Memᴰ·not-nil m)
   first-least f R {y} (z ∷ zs) r m t = go (λ k. first-least f R zs (r .1) k t) (f z) refl (List·Memᴰ·cases-cons m)
     where

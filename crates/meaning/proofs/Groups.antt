@@ -9,7 +9,8 @@ use mathlib.Core.List.{List, [], _∷_, _++_, map, append-nil, List·Memᴰ, Lis
 use lib.ListN.{length, take, drop, take-append-drop, length-take, length-drop}
 use lib.Dec.{T, ltb, ltb→lt, lt→ltb}
 use Rattle.meaning.specs.Lists.{pick, all, gather, ticks, sum}
-use Rattle.meaning.specs.Groups.{exceeds, choiceLoads, choiceOverloads, rangeLoad, groupLoads, overloads, half, firstPart, secondPart, long, single, childBy, choices}
+use Rattle.meaning.specs.Groups.{exceeds, choiceLoads, choiceOverloads, rangeLoad, groupLoads, overloads, half, firstPart, secondPart, long, single}
+use Rattle.meaning.specs.Groups.{childBy, choices}
 use Rattle.meaning.specs.Walk.{firstChild, secondChild}
 use Rattle.meaning.proofs.Lists.{both, both-left, both-right, is-false, all-mem, mem-all, mem-gather, gather-mem, gather-append, map-append, mem-largest}
 
@@ -79,9 +80,11 @@ module _ {X : Type 0} where
   split-choices [] e = absurd (true≢false e)
   split-choices (r ∷ g) e = go (λ q. split-choices g q) (long r) refl
     where
-      go : (single g ≡ false → choices (firstChild g) ++ choices (secondChild g) ≡ choices g) → (b : Bool) → long r ≡ b → choices (firstChild (r ∷ g)) ++ choices (secondChild (r ∷ g)) ≡ choices (r ∷ g)
+      go : (single g ≡ false → choices (firstChild g) ++ choices (secondChild g) ≡ choices g) → (b : Bool)
+          → long r ≡ b → choices (firstChild (r ∷ g)) ++ choices (secondChild (r ∷ g)) ≡ choices (r ∷ g)
       go ih true h =
-          rw h (sym (gather-append (λ (x : X). map (λ (c : List X). x ∷ c) (choices g)) (firstPart r) (secondPart r)) ∙ ap (λ (l : List X). begun l (choices g)) (take-append-drop (half (length r)) r))
+          rw h (sym (gather-append (λ (x : X). map (λ (c : List X). x ∷ c) (choices g)) (firstPart r) (secondPart r))
+          ∙ ap (λ (l : List X). begun l (choices g)) (take-append-drop (half (length r)) r))
       go ih false h = rw h (split-short r (choices (firstChild g)) (choices (secondChild g)) (choices g) h (ih (rw h at e)))
 
 -- ---- a part of a range, and the child that takes it: what holds of both parts is said once
@@ -156,7 +159,8 @@ module _ {X : Type 0} {part : List X → List X} (p : Part part) where
   loads-child load [] t = le-refl 0
   loads-child load (r ∷ g) t = go (loads-child load g t) (long r)
     where
-      go : groupLoads load (childBy part g) t ≤ groupLoads load g t → (b : Bool) → groupLoads load (pick b (part r ∷ g) (r ∷ childBy part g)) t ≤ groupLoads load (r ∷ g) t
+      go : groupLoads load (childBy part g) t ≤ groupLoads load g t → (b : Bool)
+          → groupLoads load (pick b (part r ∷ g) (r ∷ childBy part g)) t ≤ groupLoads load (r ∷ g) t
       go ih true = omega (arith, p .less load r t)
       go ih false = omega arith
 

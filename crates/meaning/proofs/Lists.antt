@@ -6,7 +6,8 @@ use native.Mathlib.Nat.{sub-zero, zero-add}
 use native.Mathlib.Omega.{arith}
 use mathlib.Core.Bool.{Bool, true, false, _&&_}
 use mathlib.Core.Logic.{_⊎_, inl, inr}
-use mathlib.Core.List.{List, [], _∷_, _++_, map, append-assoc, List·Memᴰ, List·Memᴰ·head, List·Memᴰ·tail, Memᴰ·append-left, Memᴰ·append-right, List·Memᴰ·append-cases, List·Memᴰ·not-nil}
+use mathlib.Core.List.{List, [], _∷_, _++_, map, append-assoc, List·Memᴰ, List·Memᴰ·head, List·Memᴰ·tail, Memᴰ·append-left, Memᴰ·append-right}
+use mathlib.Core.List.{List·Memᴰ·append-cases, List·Memᴰ·not-nil}
 use lib.ListN.{length, getD, take, drop, length-append}
 use lib.Seq.{take-nil}
 use lib.Dec.{T}
@@ -73,7 +74,8 @@ module _ {X : Type 0} where
       more : List·Memᴰ x ys × T (f x) → List·Memᴰ x (y ∷ ys) × T (f x)
       more r = (List·Memᴰ·tail (r .0), r .1)
 
-      go : (List·Memᴰ x (those f ys) → List·Memᴰ x ys × T (f x)) → (b : Bool) → f y ≡ b → List·Memᴰ x (pick b (y ∷ those f ys) (those f ys)) → List·Memᴰ x (y ∷ ys) × T (f x)
+      go : (List·Memᴰ x (those f ys) → List·Memᴰ x ys × T (f x)) → (b : Bool) → f y ≡ b
+          → List·Memᴰ x (pick b (y ∷ those f ys) (those f ys)) → List·Memᴰ x (y ∷ ys) × T (f x)
       go ih true h (List·Memᴰ·head q) = (List·Memᴰ·head q, subst (λ (z : X). T (f z)) (sym q) (subst T (sym h) tt))
       go ih true h (List·Memᴰ·tail k) = more (ih k)
       go ih false h k = more (ih k)
@@ -115,7 +117,8 @@ module _ {X Y : Type 0} where
   gather-mem f [] m = absurd (List·Memᴰ·not-nil m)
   gather-mem f (z ∷ zs) {y} m = go (λ k. gather-mem f zs k) (List·Memᴰ·append-cases (f z) m)
     where
-      go : (List·Memᴰ y (gather f zs) → (x : X) × List·Memᴰ x zs × List·Memᴰ y (f x)) → List·Memᴰ y (f z) ⊎ List·Memᴰ y (gather f zs) → (x : X) × List·Memᴰ x (z ∷ zs) × List·Memᴰ y (f x)
+      go : (List·Memᴰ y (gather f zs) → (x : X) × List·Memᴰ x zs × List·Memᴰ y (f x))
+          → List·Memᴰ y (f z) ⊎ List·Memᴰ y (gather f zs) → (x : X) × List·Memᴰ x (z ∷ zs) × List·Memᴰ y (f x)
       go ih (inl k) = (z, List·Memᴰ·head refl, k)
       go ih (inr k) = let r = ih k in (r .0, List·Memᴰ·tail (r .1), r .2)
 

@@ -53,11 +53,14 @@ kept-max false a x y z h = h
 one-on : (k : Task) (t u v : ℕ) (rs : List Path) → max (execution k u) (fromU k t u v rs) ≡ execution k u + fromV k (t - separation k u v) v rs
 one-on k t u v [] = omega arith
 one-on k t u v (r ∷ rs) =
-    ap (λ (n : ℕ). max (execution k u) n) (kept-is k (ltb (separation k u v + spanOn k v r) t) (u ∷ v ∷ r) (those (λ (q : Path). ltb (span k q) t) (map (λ (q : Path). u ∷ q) (map (λ (q : Path). v ∷ q) rs))))
+    ap (λ (n : ℕ). max (execution k u) n) (kept-is k (ltb (separation k u v + spanOn k v r) t) (u ∷ v ∷ r)
+    (those (λ (q : Path). ltb (span k q) t) (map (λ (q : Path). u ∷ q) (map (λ (q : Path). v ∷ q) rs))))
     ∙ rw (shift (separation k u v) (spanOn k v r) t)
-    (kept-max (ltb (spanOn k v r) (t - separation k u v)) (execution k u) (total k (v ∷ r)) (fromU k t u v rs) (fromV k (t - separation k u v) v rs) (one-on k t u v rs)
+    (kept-max (ltb (spanOn k v r) (t - separation k u v)) (execution k u) (total k (v ∷ r))
+    (fromU k t u v rs) (fromV k (t - separation k u v) v rs) (one-on k t u v rs)
     ∙ ap (λ (n : ℕ). execution k u + n)
-    (sym (kept-is k (ltb (spanOn k v r) (t - separation k u v)) (v ∷ r) (those (λ (q : Path). ltb (span k q) (t - separation k u v)) (map (λ (q : Path). v ∷ q) rs)))))
+    (sym (kept-is k (ltb (spanOn k v r) (t - separation k u v)) (v ∷ r)
+    (those (λ (q : Path). ltb (span k q) (t - separation k u v)) (map (λ (q : Path). v ∷ q) rs)))))
 
 -- no prefix has a span below 0
 none-at-zero : (k : Task) (qs : List Path) → largest (map (total k) (those (λ (q : Path). ltb (span k q) 0) qs)) ≡ 0

@@ -13,10 +13,12 @@ use Rattle.meaning.specs.Lists.{pick, sum, gather, below}
 use Rattle.meaning.specs.Bounds.{mostTasks, mostVertices, mostEdges, largestE, largestD, largestP, lineLength}
 use Rattle.meaning.specs.Table.{Vertex, Edge, Task, Table, vertex, edge, task, noVertex}
 use Rattle.meaning.specs.Text.{Line, lineFeed, intoFirst, linesOf, digitOf, byteWith, hexBytes, frameOf, isFrame, word}
-use Rattle.meaning.specs.Text.{Begun, begun, nothing, closed, Step, on, over, wrong, gate, within, taskFrame, vertexFrame, afterLast, edgeFrame, framed, stepAt, Reading, readable, unreadable, atEnd, readFrom, read}
+use Rattle.meaning.specs.Text.{Begun, begun, nothing, closed, Step, on, over, wrong, gate, within, taskFrame, vertexFrame, afterLast, edgeFrame, framed}
+use Rattle.meaning.specs.Text.{stepAt, Reading, readable, unreadable, atEnd, readFrom, read}
 use Rattle.meaning.specs.Sound.{SoundTask, AllSound}
 use Rattle.meaning.specs.Desk.{line}
-use Rattle.meaning.specs.Texts.{taskLine, vertexLine, edgeLine, endLine, longestTask, longestText, taskLength, textLength, LongestText, lastLine, TextRefused}
+use Rattle.meaning.specs.Texts.{taskLine, vertexLine, edgeLine, endLine, longestTask, longestText, taskLength, textLength, LongestText, lastLine}
+use Rattle.meaning.specs.Texts.{TextRefused}
 use Rattle.meaning.proofs.Lists.{both-left, both-right, length-snoc, map-append, sum-append}
 use Rattle.meaning.proofs.Readable.{readStep, step-read, read-sound, read-refused, gate-step, pick-step}
 

@@ -62,7 +62,8 @@ completes-fit d (k ∷ ks) (x ∷ ws) s o c w (List·Memᴰ·tail m) = completes
 
 -- ---- of a miss
 
-module _ (ts : Table) (s : SoundTable ts) (i v : ℕ) (p : i < length ts) (u : v < length (taskAt ts i .vertices)) (b work wit c : ℕ) (ws : List Path) (q : judged ts i v b work wit ≡ misses c ws) where
+module _ (ts : Table) (s : SoundTable ts) (i v : ℕ) (p : i < length ts) (u : v < length (taskAt ts i .vertices))
+    (b work wit c : ℕ) (ws : List Path) (q : judged ts i v b work wit ≡ misses c ws) where
   first : First ts i v ws
   first =
       let g = judged-given ts i v b work wit (misses c ws) q tt in

@@ -16,8 +16,10 @@ use Rattle.meaning.proofs.Edges.{on-by}
 abbrev pub onward : Task → ℕ → ℕ → ℕ → List Path
 onward k n room v = gather (λ (x : Edge). pathsFrom k n (room - x .p) (x .to)) (those (λ (x : Edge). ltb (x .p) room) (outOf k v))
 
-pub mem-onward : (k : Task) (n room v : ℕ) (x : Edge) {w : Path} → List·Memᴰ x (outOf k v) → x .p < room → List·Memᴰ w (pathsFrom k n (room - x .p) (x .to)) → List·Memᴰ w (onward k n room v)
-mem-onward k n room v x m h j = mem-gather (λ (y : Edge). pathsFrom k n (room - y .p) (y .to)) (mem-those (λ (y : Edge). ltb (y .p) room) m (lt→ltb (x .p) room h)) j
+pub mem-onward : (k : Task) (n room v : ℕ) (x : Edge) {w : Path} → List·Memᴰ x (outOf k v)
+    → x .p < room → List·Memᴰ w (pathsFrom k n (room - x .p) (x .to)) → List·Memᴰ w (onward k n room v)
+mem-onward k n room v x m h j = mem-gather (λ (y : Edge). pathsFrom k n (room - y .p) (y .to))
+    (mem-those (λ (y : Edge). ltb (y .p) room) m (lt→ltb (x .p) room h)) j
 
 -- the edge by which a path goes on
 pub record By (k : Task) (n room v : ℕ) (w : Path) : Type 0 where
@@ -84,4 +86,5 @@ pub complete-legal : (k : Task) (d : ℕ) {c : Path} → List·Memᴰ c (complet
 complete-legal k d m =
     let r = complete-mem k d m in
     let l = linked-from k d d (r .0) (r .2) in
-    subst (λ (z : Path). T (legal k z)) (sym (l .1)) (both (ltb (r .0) (length (k .vertices))) (linked k (r .0) (l .0)) (lt→ltb (r .0) (length (k .vertices)) (r .1)) (l .2))
+    subst (λ (z : Path). T (legal k z)) (sym (l .1))
+    (both (ltb (r .0) (length (k .vertices))) (linked k (r .0) (l .0)) (lt→ltb (r .0) (length (k .vertices)) (r .1)) (l .2))

@@ -5,13 +5,15 @@ use native.Mathlib.Omega.{arith}
 use mathlib.Core.Bool.{Bool, true, false, _&&_, _||_}
 use mathlib.Core.Logic.{_⊎_, inl, inr}
 use mathlib.Core.Option.{Option, none, some}
-use mathlib.Core.List.{List, [], _∷_, _++_, List·Memᴰ, List·Memᴰ·head, List·Memᴰ·append-cases, List·Memᴰ·cases-cons, List·Memᴰ·eq-of-singleton, List·Memᴰ·not-nil}
+use mathlib.Core.List.{List, [], _∷_, _++_, List·Memᴰ, List·Memᴰ·head, List·Memᴰ·append-cases, List·Memᴰ·cases-cons, List·Memᴰ·eq-of-singleton}
+use mathlib.Core.List.{List·Memᴰ·not-nil}
 use lib.ListN.{length, getD, List·getD-append}
 use lib.Dec.{T, ltb, leb, eqb, leb→le, ltb→lt, eqb→eq}
 use Rattle.meaning.specs.Lists.{pick, Rising}
 use Rattle.meaning.specs.Bounds.{mostTasks, mostVertices, mostEdges, largestE, largestD, largestP}
 use Rattle.meaning.specs.Table.{Vertex, Edge, Task, Table, vertex, edge, task, noVertex}
-use Rattle.meaning.specs.Text.{Line, frameOf, Begun, begun, nothing, Step, on, over, wrong, within, closed, afterLast, gate, taskFrame, vertexFrame, edgeFrame, isFrame, word, framed, stepAt, Reading, readable, unreadable, atEnd, readFrom, read, linesOf}
+use Rattle.meaning.specs.Text.{Line, frameOf, Begun, begun, nothing, Step, on, over, wrong, within, closed, afterLast, gate, taskFrame, vertexFrame}
+use Rattle.meaning.specs.Text.{edgeFrame, isFrame, word, framed, stepAt, Reading, readable, unreadable, atEnd, readFrom, read, linesOf}
 use Rattle.meaning.specs.Sound.{SoundVertex, SoundEdge, EdgeBefore, SoundTask, AllSound, SoundTable, ReadableSound}
 use Rattle.meaning.specs.Texts.{mostLines, lastLine}
 use Rattle.meaning.proofs.Lists.{both-left, both-right, length-snoc}

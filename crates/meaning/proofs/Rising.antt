@@ -57,7 +57,8 @@ module _ {X : Type 0} (R : X → X → Type 0) (asym : (a b : X) → R a b → R
   head-same a b xs ys r s (inr m) (inl q) = sym q
   head-same a b xs ys r s (inr m) (inr n) = absurd (asym a b (r .0 b n) (s .0 a m))
 
-  pub rising-same : (xs ys : List X) → Rising R xs → Rising R ys → ((c : X) → List·Memᴰ c xs → List·Memᴰ c ys) → ((c : X) → List·Memᴰ c ys → List·Memᴰ c xs) → xs ≡ ys
+  pub rising-same : (xs ys : List X) → Rising R xs → Rising R ys
+      → ((c : X) → List·Memᴰ c xs → List·Memᴰ c ys) → ((c : X) → List·Memᴰ c ys → List·Memᴰ c xs) → xs ≡ ys
   rising-same [] [] r s f g = refl
   rising-same [] (y ∷ ys) r s f g = absurd (List·Memᴰ·not-nil (g y (List·Memᴰ·head refl)))
   rising-same (x ∷ xs) [] r s f g = absurd (List·Memᴰ·not-nil (f x (List·Memᴰ·head refl)))

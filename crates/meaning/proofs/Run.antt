@@ -34,10 +34,12 @@ module _ {X : Type 0} (load : X → ℕ → ℕ) (e d : ℕ) where
       go true h = sides-hit load e d (suc n) g h (excess-single g b) ∙ sym (sides-hit load e d zero g h (excess-single g b))
       go false h = sides-quiet load e d (suc n) g h ∙ sym (sides-quiet load e d zero g h)
   same-fuel (suc n) (suc m) g a b =
-      go (λ q. same-fuel n m (firstChild g) (omega (arith, excess-child first-part g q)) (omega (arith, excess-child first-part g q))) (λ q. same-fuel n m (secondChild g) (omega (arith, excess-child second-part g q)) (omega (arith, excess-child second-part g q)))
+      go (λ q. same-fuel n m (firstChild g) (omega (arith, excess-child first-part g q)) (omega (arith, excess-child first-part g q)))
+      (λ q. same-fuel n m (secondChild g) (omega (arith, excess-child second-part g q)) (omega (arith, excess-child second-part g q)))
       (ov g) refl (single g) refl
     where
-      go : (single g ≡ false → sidesFrom load e d n (firstChild g) ≡ sidesFrom load e d m (firstChild g)) → (single g ≡ false → sidesFrom load e d n (secondChild g) ≡ sidesFrom load e d m (secondChild g))
+      go : (single g ≡ false → sidesFrom load e d n (firstChild g) ≡ sidesFrom load e d m (firstChild g))
+          → (single g ≡ false → sidesFrom load e d n (secondChild g) ≡ sidesFrom load e d m (secondChild g))
           → (c : Bool) → ov g ≡ c → (s : Bool) → single g ≡ s → sidesFrom load e d (suc n) g ≡ sidesFrom load e d (suc m) g
       go l r false h s q = sides-quiet load e d (suc n) g h ∙ sym (sides-quiet load e d (suc m) g h)
       go l r true h true q = sides-hit load e d (suc n) g h q ∙ sym (sides-hit load e d (suc m) g h q)
@@ -54,13 +56,16 @@ module _ {X : Type 0} (load : X → ℕ → ℕ) (e d : ℕ) where
   whole-split : (g : List (List X)) → ov g ≡ true → single g ≡ false → whole g ≡ joined (whole (firstChild g)) (whole (secondChild g))
   whole-split g h q =
       same-fuel (excess g) (suc (excess g)) g (le-refl _) (omega arith) ∙ sides-split load e d (excess g) g h q
-      ∙ ap₂ joined (same-fuel (excess g) (excess (firstChild g)) (firstChild g) (omega (arith, excess-child first-part g q)) (le-refl _)) (same-fuel (excess g) (excess (secondChild g)) (secondChild g) (omega (arith, excess-child second-part g q)) (le-refl _))
+      ∙ ap₂ joined (same-fuel (excess g) (excess (firstChild g)) (firstChild g) (omega (arith, excess-child first-part g q)) (le-refl _))
+      (same-fuel (excess g) (excess (secondChild g)) (secondChild g) (omega (arith, excess-child second-part g q)) (le-refl _))
 
   -- two sides and then the rest, or a side and then the other and the rest
-  regroup-seen : (a b c : Sides X) → joined a b .seen + unless (joined a b .found) (c .seen) ≡ suc (a .seen + unless (a .found) (b .seen + unless (b .found) (c .seen)))
+  regroup-seen : (a b c : Sides X)
+      → joined a b .seen + unless (joined a b .found) (c .seen) ≡ suc (a .seen + unless (a .found) (b .seen + unless (b .found) (c .seen)))
   regroup-seen a b c = go (a .found)
     where
-      go : (f : Option (List X)) → 1 + (a .seen + unless f (b .seen)) + unless (orElse f (b .found)) (c .seen) ≡ suc (a .seen + unless f (b .seen + unless (b .found) (c .seen)))
+      go : (f : Option (List X)) → 1 + (a .seen + unless f (b .seen)) + unless (orElse f (b .found))
+          (c .seen) ≡ suc (a .seen + unless f (b .seen + unless (b .found) (c .seen)))
       go (some x) = omega arith
       go none = omega arith
 
@@ -71,7 +76,8 @@ module _ {X : Type 0} (load : X → ℕ → ℕ) (e d : ℕ) where
   abbrev both-sides : List (List X) → List (List (List X)) → List (List (List X))
   both-sides g todo = firstChild g ∷ secondChild g ∷ todo
 
-  split-seen : (g : List (List X)) (todo : List (List (List X))) → ov g ≡ true → single g ≡ false → stack (g ∷ todo) .seen ≡ suc (stack (both-sides g todo) .seen)
+  split-seen : (g : List (List X)) (todo : List (List (List X))) → ov g ≡ true
+      → single g ≡ false → stack (g ∷ todo) .seen ≡ suc (stack (both-sides g todo) .seen)
   split-seen g todo h q = rw (whole-split g h q) (regroup-seen (whole (firstChild g)) (whole (secondChild g)) (stack todo))
 
   split-found : (g : List (List X)) (todo : List (List (List X))) → ov g ≡ true → single g ≡ false → stack (g ∷ todo) .found ≡ stack (both-sides g todo) .found
@@ -93,10 +99,12 @@ module _ {X : Type 0} (load : X → ℕ → ℕ) (e d : ℕ) where
   pub run-quiet : (b c : ℕ) (g : List (List X)) (todo : List (List (List X))) → ov g ≡ false → run load e d (suc b) (g ∷ todo) c ≡ run load e d b todo (suc c)
   run-quiet b c g todo h = rw (h, run)
 
-  pub run-hit : (b c : ℕ) (g : List (List X)) (todo : List (List (List X))) → ov g ≡ true → single g ≡ true → run load e d (suc b) (g ∷ todo) c ≡ ended (suc c) (some (heads g))
+  pub run-hit : (b c : ℕ) (g : List (List X)) (todo : List (List (List X))) → ov g ≡ true
+      → single g ≡ true → run load e d (suc b) (g ∷ todo) c ≡ ended (suc c) (some (heads g))
   run-hit b c g todo h q = rw (h, run) (rw q)
 
-  pub run-split : (b c : ℕ) (g : List (List X)) (todo : List (List (List X))) → ov g ≡ true → single g ≡ false → run load e d (suc b) (g ∷ todo) c ≡ run load e d b (both-sides g todo) (suc c)
+  pub run-split : (b c : ℕ) (g : List (List X)) (todo : List (List (List X))) → ov g ≡ true
+      → single g ≡ false → run load e d (suc b) (g ∷ todo) c ≡ run load e d b (both-sides g todo) (suc c)
   run-split b c g todo h q = rw (h, run) (rw q)
 
   -- a group takes one step at least
@@ -120,7 +128,8 @@ module _ {X : Type 0} (load : X → ℕ → ℕ) (e d : ℕ) where
           run-quiet b c g todo k ∙ ih todo (omega (arith, quiet-seen g todo k)) ∙ ap₂ ended (omega (arith, quiet-seen g todo k)) (sym (quiet-found g todo k))
       go ih true k true q = run-hit b c g todo k q ∙ ap₂ ended (omega (arith, hit-seen g todo k q)) (sym (hit-found g todo k q))
       go ih true k false q =
-          run-split b c g todo k q ∙ ih (both-sides g todo) (omega (arith, split-seen g todo k q)) ∙ ap₂ ended (omega (arith, split-seen g todo k q)) (sym (split-found g todo k q))
+          run-split b c g todo k q ∙ ih (both-sides g todo) (omega (arith, split-seen g todo k q))
+          ∙ ap₂ ended (omega (arith, split-seen g todo k q)) (sym (split-found g todo k q))
 
   run-short : (b : ℕ) (todo : List (List (List X))) (c : ℕ) → b < stack todo .seen → run load e d b todo c ≡ cut
   run-short zero [] c h = absurd (omega arith)
@@ -128,21 +137,24 @@ module _ {X : Type 0} (load : X → ℕ → ℕ) (e d : ℕ) where
   run-short (suc b) [] c h = absurd (omega arith)
   run-short (suc b) (g ∷ todo) c h = go (λ t k. run-short b t (suc c) k) (ov g) refl (single g) refl
     where
-      go : ((t : List (List (List X))) → b < stack t .seen → run load e d b t (suc c) ≡ cut) → (v : Bool) → ov g ≡ v → (s : Bool) → single g ≡ s → run load e d (suc b) (g ∷ todo) c ≡ cut
+      go : ((t : List (List (List X))) → b < stack t .seen → run load e d b t (suc c) ≡ cut)
+          → (v : Bool) → ov g ≡ v → (s : Bool) → single g ≡ s → run load e d (suc b) (g ∷ todo) c ≡ cut
       go ih false k s q = run-quiet b c g todo k ∙ ih todo (omega (arith, quiet-seen g todo k))
       go ih true k true q = absurd (omega (arith, hit-seen g todo k q))
       go ih true k false q = run-split b c g todo k q ∙ ih (both-sides g todo) (omega (arith, split-seen g todo k q))
 
   -- the whole walk: C and the witness, or cut short exactly if the budget is below C
   top-seen : (g : List (List X)) → stack (g ∷ []) .seen ≡ count load e d g
-  top-seen g = go (whole g .found) ∙ ap (λ (w : Sides X). w .seen) (same-fuel (excess g) (sum (map length g)) g (le-refl _) (excess-le g)) ∙ sym (count-sides load e d g)
+  top-seen g = go (whole g .found) ∙ ap (λ (w : Sides X). w .seen) (same-fuel (excess g) (sum (map length g)) g (le-refl _) (excess-le g))
+      ∙ sym (count-sides load e d g)
     where
       go : (f : Option (List X)) → whole g .seen + unless f 0 ≡ whole g .seen
       go (some x) = omega arith
       go none = omega arith
 
   top-found : (g : List (List X)) → T (full g) → stack (g ∷ []) .found ≡ witness load e d g
-  top-found g f = go (whole g .found) ∙ ap (λ (w : Sides X). w .found) (same-fuel (excess g) (sum (map length g)) g (le-refl _) (excess-le g)) ∙ sym (witness-sides load e d g f)
+  top-found g f = go (whole g .found) ∙ ap (λ (w : Sides X). w .found) (same-fuel (excess g) (sum (map length g)) g (le-refl _) (excess-le g))
+      ∙ sym (witness-sides load e d g f)
     where
       go : (o : Option (List X)) → orElse o none ≡ o
       go (some x) = refl

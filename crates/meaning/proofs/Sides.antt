@@ -45,7 +45,8 @@ module _ {X : Type 0} (load : X → ℕ → ℕ) (e d : ℕ) where
   sides-hit zero g h q = rw (h, sidesFrom) (rw q)
   sides-hit (suc n) g h q = rw (h, sidesFrom) (rw q)
 
-  pub sides-split : (n : ℕ) (g : List (List X)) → overloads load e d g ≡ true → single g ≡ false → sidesFrom (suc n) g ≡ joined (sidesFrom n (firstChild g)) (sidesFrom n (secondChild g))
+  pub sides-split : (n : ℕ) (g : List (List X)) → overloads load e d g ≡ true → single g ≡ false
+      → sidesFrom (suc n) g ≡ joined (sidesFrom n (firstChild g)) (sidesFrom n (secondChild g))
   sides-split n g h q = rw (h, sidesFrom) (rw q)
 
   pub sides-out : (g : List (List X)) → single g ≡ false → sidesFrom zero g ≡ alone none
@@ -69,5 +70,6 @@ module _ {X : Type 0} where
   groups-single zero parents g q = refl
   groups-single (suc n) parents g q = rw (q, groupsFrom)
 
-  pub groups-split : (n : ℕ) (parents : List (List (List X))) (g : List (List X)) → single g ≡ false → groupsFrom (suc n) parents g ≡ put parents g ∷ under n parents g
+  pub groups-split : (n : ℕ) (parents : List (List (List X))) (g : List (List X))
+      → single g ≡ false → groupsFrom (suc n) parents g ≡ put parents g ∷ under n parents g
   groups-split n parents g q = rw (q, groupsFrom)

@@ -69,7 +69,8 @@ pub sets-drop : (vs l : List ℕ) (s i : ℕ) → drop s (sets l (s + i) vs) ≡
 sets-drop [] l s i = refl
 sets-drop (a ∷ vs) l s i =
     let z : suc (s + i) ≡ s + suc i = omega arith in
-    ap (λ (n : ℕ). drop s (sets (set l (s + i) a) n vs)) z ∙ sets-drop vs (set l (s + i) a) s (suc i) ∙ ap (λ (w : List ℕ). sets w (suc i) vs) (drop-set-add s l i a)
+    ap (λ (n : ℕ). drop s (sets (set l (s + i) a) n vs)) z ∙ sets-drop vs (set l (s + i) a) s (suc i)
+    ∙ ap (λ (w : List ℕ). sets w (suc i) vs) (drop-set-add s l i a)
 
 pub sets-take : (vs l : List ℕ) (d i : ℕ) → d ≤ i → take d (sets l i vs) ≡ take d l
 sets-take [] l d i h = refl

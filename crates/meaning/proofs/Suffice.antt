@@ -56,7 +56,8 @@ better k sp (suc n) room v (u ∷ w) h l =
         let one : 1 ≤ x .p = out-spaced k sp v m in
         let rest : T (linked k (x .to) w) = subst (λ (z : ℕ). T (linked k z w)) (sym q) (both-right (ltb 0 (length (between k v u))) (linked k u w) l) in
         elim (decLt (x .p) room) [
-          | yes a ↦ subst (λ (z : ℕ). Better k (suc n) room v (z ∷ w)) q (by-edge k n room v w x m (r ∙ ap (separation k v) (sym q)) a (ih x (omega arith) rest))
+          | yes a ↦ subst (λ (z : ℕ). Better k (suc n) room v (z ∷ w)) q
+              (by-edge k n room v w x m (r ∙ ap (separation k v) (sym q)) a (ih x (omega arith) rest))
           | no a ↦ no-room k (suc n) room v u w (omega arith)
         ]
 

@@ -84,7 +84,8 @@ module _ (ts : Table) (i v : ℕ) (s : AllSound (higher ts i)) where
     where
       same : (y c : List Listed) (us : List Path) → W ts i v ≡ some y → pathsIn c ≡ us → (y ≡ c) ⊎ Earlier y c → (pathsIn x ≡ us) ⊎ ChoiceBefore (pathsIn x) us
       same y c us a b (inl h) = let k : x ≡ c = cc in inl (ap pathsIn k ∙ b)
-      same y c us a b (inr h) = let k : y ≡ x = cc in inr (subst (λ (l : List Path). ChoiceBefore (pathsIn x) l) b (subst (λ (l : List Listed). Earlier l c) k h))
+      same y c us a b (inr h) = let k : y ≡ x = cc in
+          inr (subst (λ (l : List Path). ChoiceBefore (pathsIn x) l) b (subst (λ (l : List Listed). Earlier l c) k h))
 
       before : (us : List Path) → Completes d ks us → Overload ks e d us → (pathsIn x ≡ us) ⊎ ChoiceBefore (pathsIn x) us
       before us m o =
@@ -97,7 +98,8 @@ module _ (ts : Table) (i v : ℕ) (s : AllSound (higher ts i)) where
 
 -- ---- the cases of a verdict
 
-pub decided-misses : (n : ℕ) (o : Option (List Listed)) (c : ℕ) (ws : List Path) → decided n o ≡ misses c ws → (x : List Listed) × (o ≡ some x) × (ws ≡ pathsIn x) × (c ≡ n)
+pub decided-misses : (n : ℕ) (o : Option (List Listed)) (c : ℕ) (ws : List Path)
+    → decided n o ≡ misses c ws → (x : List Listed) × (o ≡ some x) × (ws ≡ pathsIn x) × (c ≡ n)
 decided-misses n none c ws q = absurd (let z : _≡_ {A = ℕ} 0 1 = cc in omega arith)
 decided-misses n (some x) c ws q = (x, refl, cc, cc)
 

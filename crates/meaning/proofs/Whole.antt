@@ -36,7 +36,8 @@ here-later k ks i t v h x = subst (λ (j : ℕ). Here (k ∷ ks) j v) (omega ari
 
 places-from : (i : ℕ) (ks : List Task) (q : Place) → List·Memᴰ q (placesFrom i ks) → (i ≤ q .task) × Here ks (q .task - i) (q .vertex)
 places-from i [] q m = absurd (List·Memᴰ·not-nil m)
-places-from i (k ∷ ks) q m = go (λ n. places-from (suc i) ks q n) (List·Memᴰ·append-cases (map (λ (v : ℕ). record { task = i; vertex = v }) (below (length (k .vertices)))) m)
+places-from i (k ∷ ks) q m = go (λ n. places-from (suc i) ks q n)
+    (List·Memᴰ·append-cases (map (λ (v : ℕ). record { task = i; vertex = v }) (below (length (k .vertices)))) m)
   where
     first : (v : ℕ) → v < length (k .vertices) → Here (k ∷ ks) (i - i) v
     first v h =
@@ -48,7 +49,8 @@ places-from i (k ∷ ks) q m = go (λ n. places-from (suc i) ks q n) (List·Mem�
         → (i ≤ q .task) × Here (k ∷ ks) (q .task - i) (q .vertex)
     go ih (inl n) =
         let r = Memᴰ·of-map {B = Place} (λ (v : ℕ). record { task = i; vertex = v }) (below (length (k .vertices))) n in
-        subst (λ (p : Place). (i ≤ p .task) × Here (k ∷ ks) (p .task - i) (p .vertex)) (r .2) (le-refl i, first (r .0) (omega (arith, countFrom-mem 0 (length (k .vertices)) (r .0) (r .1))))
+        subst (λ (p : Place). (i ≤ p .task) × Here (k ∷ ks) (p .task - i) (p .vertex)) (r .2)
+        (le-refl i, first (r .0) (omega (arith, countFrom-mem 0 (length (k .vertices)) (r .0) (r .1))))
     go ih (inr n) = let r = ih n in (omega (arith, r .0), here-later k ks i (q .task) (q .vertex) (r .0) (r .1))
 
 pub place-in : (ts : Table) (q : Place) → List·Memᴰ q (places ts) → (q .task < length ts) × (q .vertex < length (taskAt ts (q .task) .vertices))
@@ -63,7 +65,8 @@ last-row : (rows : List Row) (r s : Row) → r .holds ≡ false → s .holds ≡
 last-row [] r s p q = row-none r [] p ∙ sym (row-none s [] q)
 last-row (x ∷ rows) r s p q = go (x .holds) refl (last-row rows r s p q)
   where
-    go : (a : Bool) → x .holds ≡ a → firstRow (rows ++ (r ∷ [])) ≡ firstRow (rows ++ (s ∷ [])) → firstRow (x ∷ rows ++ (r ∷ [])) ≡ firstRow (x ∷ rows ++ (s ∷ []))
+    go : (a : Bool) → x .holds ≡ a → firstRow (rows ++ (r ∷ [])) ≡ firstRow (rows ++ (s ∷ []))
+        → firstRow (x ∷ rows ++ (r ∷ [])) ≡ firstRow (x ∷ rows ++ (s ∷ []))
     go true e ih = row-some x (rows ++ (r ∷ [])) e ∙ sym (row-some x (rows ++ (s ∷ [])) e)
     go false e ih = row-none x (rows ++ (r ∷ [])) e ∙ ih ∙ sym (row-none x (rows ++ (s ∷ [])) e)
 
@@ -124,6 +127,7 @@ desk-witness ts s q m =
     let p = place-in ts q m in
     let k = taskAt ts (q .task) in
     let sound = s .eachTask k (mem-getD noTask ts (q .task) (p .0)) in
-    let short : 1 + deadline ts (q .task) (q .vertex) ≤ 1 + largestD = omega (arith, sound .eachVertex (vertexAt k (q .vertex)) (mem-getD noVertex (k .vertices) (q .vertex) (p .1)) .mostD) in
+    let short : 1 + deadline ts (q .task) (q .vertex) ≤ 1 + largestD =
+    omega (arith, sound .eachVertex (vertexAt k (q .vertex)) (mem-getD noVertex (k .vertices) (q .vertex) (p .1)) .mostD) in
     let few : q .task ≤ 7 = omega (arith, s .taskCount, p .0) in
     le-trans (mul-le-mul few short) (omega arith)

@@ -14,7 +14,8 @@ use Rattle.meaning.specs.Groups.{choiceLoads, groupLoads, overloads, cho
 use Rattle.meaning.specs.Walk.{firstChild, secondChild, heads}
 use Rattle.meaning.proofs.Lists.{is-true}
 use Rattle.meaning.proofs.Firsts.{orElse, firstThat-append, firstThat-none}
-use Rattle.meaning.proofs.Groups.{exceeds-mono, choices-in, quiet-choice, split-choices, first-part, second-part, full, full-child, excess, excess-le, excess-single, excess-child}
+use Rattle.meaning.proofs.Groups.{exceeds-mono, choices-in, quiet-choice, split-choices, first-part, second-part, full, full-child, excess, excess-le}
+use Rattle.meaning.proofs.Groups.{excess-single, excess-child}
 use Rattle.meaning.proofs.Sides.{sidesFrom, sides-quiet, sides-hit, sides-split}
 
 module _ {X : Type 0} where
@@ -42,7 +43,8 @@ module _ {X : Type 0} (load : X → ℕ → ℕ) (e d : ℕ) where
   single-hit : (g : List (List X)) → T (full g) → single g ≡ true → overloads load e d g ≡ true → firstThat co (choices g) ≡ some (heads g)
   unfolding overloads choiceOverloads
   single-hit g f q h =
-      let t : co (heads g) ≡ true = is-true (co (heads g)) (exceeds-mono e d (groupLoads load g) (choiceLoads load (heads g)) (λ s. heads-load g s f q) (subst T (sym h) tt)) in
+      let t : co (heads g) ≡ true =
+      is-true (co (heads g)) (exceeds-mono e d (groupLoads load g) (choiceLoads load (heads g)) (λ s. heads-load g s f q) (subst T (sym h) tt)) in
       rw (single-choice g f q) (rw (t, firstThat))
 
   found-witness : (n : ℕ) (g : List (List X)) → T (full g) → excess g ≤ n → sidesFrom load e d n g .found ≡ firstThat co (choices g)
@@ -52,10 +54,12 @@ module _ {X : Type 0} (load : X → ℕ → ℕ) (e d : ℕ) where
       go true h = rw (sides-hit load e d zero g h (excess-single g x)) (sym (single-hit g f (excess-single g x) h))
       go false h = rw (sides-quiet load e d zero g h) (sym (no-choice g h))
   found-witness (suc n) g f x =
-      go (λ q. found-witness n (firstChild g) (full-child first-part g f) (omega (arith, excess-child first-part g q))) (λ q. found-witness n (secondChild g) (full-child second-part g f) (omega (arith, excess-child second-part g q)))
+      go (λ q. found-witness n (firstChild g) (full-child first-part g f) (omega (arith, excess-child first-part g q)))
+      (λ q. found-witness n (secondChild g) (full-child second-part g f) (omega (arith, excess-child second-part g q)))
       (overloads load e d g) refl (single g) refl
     where
-      go : (single g ≡ false → sidesFrom load e d n (firstChild g) .found ≡ firstThat co (choices (firstChild g))) → (single g ≡ false → sidesFrom load e d n (secondChild g) .found ≡ firstThat co (choices (secondChild g)))
+      go : (single g ≡ false → sidesFrom load e d n (firstChild g) .found ≡ firstThat co (choices (firstChild g)))
+          → (single g ≡ false → sidesFrom load e d n (secondChild g) .found ≡ firstThat co (choices (secondChild g)))
           → (b : Bool) → overloads load e d g ≡ b → (c : Bool) → single g ≡ c → sidesFrom load e d (suc n) g .found ≡ firstThat co (choices g)
       go l r false h c q = rw (sides-quiet load e d (suc n) g h) (sym (no-choice g h))
       go l r true h true q = rw (sides-hit load e d (suc n) g h q) (sym (single-hit g f q h))

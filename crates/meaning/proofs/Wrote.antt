@@ -21,7 +21,8 @@ sets-append l i (x ∷ xs) ys =
 pub wrote-none : (out : List ℕ) (at : ℕ) → Wrote [] out at out at
 wrote-none out at = record { cells = refl; end = omega arith }
 
-pub wrote-then : (xs ys : List ℕ) {out mid after : List ℕ} {at next last : ℕ} → Wrote xs out at mid next → Wrote ys mid next after last → Wrote (xs ++ ys) out at after last
+pub wrote-then : (xs ys : List ℕ) {out mid after : List ℕ} {at next last : ℕ}
+    → Wrote xs out at mid next → Wrote ys mid next after last → Wrote (xs ++ ys) out at after last
 wrote-then xs ys {out} {mid} {after} {at} {next} {last} a b =
     record {
       cells = b .cells ∙ ap₂ (λ (l : List ℕ) (k : ℕ). sets l k ys) (a .cells) (a .end) ∙ sym (sets-append out at xs ys);
@@ -46,7 +47,8 @@ module _ {X : Type 0} (f : X → List ℕ) (xs : List X) where
   pub gathering-none : (before : List ℕ) (from : ℕ) → Gathering before from before from 0
   gathering-none before from = record { low = omega arith; same = refl; wrote = wrote-none before from }
 
-  pub gathering-more : {before now after : List ℕ} {from at next j : ℕ} (z : X) → Gathering before from now at j → j < length xs → Wrote (f (getD xs j z)) now at after next
+  pub gathering-more : {before now after : List ℕ} {from at next j : ℕ} (z : X)
+      → Gathering before from now at j → j < length xs → Wrote (f (getD xs j z)) now at after next
       → Gathering before from after next (j + 1)
   gathering-more {before} {now} {after} {from} {at} {next} {j} z g h w =
       record {

@@ -37,7 +37,8 @@ module _ {t : Task} (h : HeldTask t) {e start to p : List ℕ} (c : ColumnsOf (t
     pub counted : (cap r : ℕ) → r ≡ min cap (length (allWays start to p d 0 (t .nv))) → r ≡ min cap (length (pathsOf (taskOf t) d))
     counted cap r q = q ∙ ap (min cap) count
 
-    pub placed : (i : ℕ) (r : Path) → r ≡ pathRecord (pathBy to (getD (allWays start to p d 0 (t .nv)) i [])) → r ≡ pathRecord (getD (pathsOf (taskOf t) d) i [])
+    pub placed : (i : ℕ) (r : Path) → r ≡ pathRecord (pathBy to (getD (allWays start to p d 0 (t .nv)) i []))
+        → r ≡ pathRecord (getD (pathsOf (taskOf t) d) i [])
     placed i r q = q ∙ ap pathRecord (sym (place-of-ways c d (t .nv) i size) ∙ ap (λ (w : List (List ℕ)). getD w i []) (paths-are-complete (taskOf t) d))
 
     pub room-for-all : (len : ℕ) → Room d (length (pathsOf (taskOf t) d)) len → Room d (length (allWays start to p d 0 (t .nv))) len

@@ -27,7 +27,8 @@ use Rattle.ranges.proofs.Rows.{order-length}
 pub stretch-length : (k : Task) (d : ℕ) → 0 < length (pathsOf k d) → length (stretchOf k d) ≡ rowsOf d k * d
 unfolding stretchOf
 stretch-length k d h =
-    order-length (rangeRow k d) d (λ ys. length-map (ticks d) (rangeLoad (load k) ys) ∙ length-countFrom 1 d) (length (pathsOf k d)) (pathsOf k d) h (omega arith)
+    order-length (rangeRow k d) d (λ ys. length-map (ticks d) (rangeLoad (load k) ys) ∙ length-countFrom 1 d)
+    (length (pathsOf k d)) (pathsOf k d) h (omega arith)
 
 -- where 9 is not the refusal, a task's need is small
 pub cells-small : (n d : ℕ) → n ≤ mostPaths → d ≤ largestD → stretchCells d n ≤ rowsFor mostPaths * largestD

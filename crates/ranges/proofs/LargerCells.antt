@@ -64,9 +64,11 @@ module _ (P : List ℕ) (o a b d : ℕ) (ha : a + d ≤ o) (hb : o + d ≤ b) (h
       → set m (o + t) z ≡ sets P o (take (t + 1) (pairLarger P a b d))
   larger-more m t z h e ez =
       let l : length (take t (pairLarger P a b d)) ≡ t = length-take-le t (pairLarger P a b d) (omega (arith, pair-length)) in
-      let ra : getD m (a + t) 0 ≡ getD (take d (drop a P)) t 0 = ap (λ (w : List ℕ). getD w (a + t) 0) e ∙ sets-before (take t (pairLarger P a b d)) P o (a + t) (omega arith)
+      let ra : getD m (a + t) 0 ≡ getD (take d (drop a P)) t 0 =
+      ap (λ (w : List ℕ). getD w (a + t) 0) e ∙ sets-before (take t (pairLarger P a b d)) P o (a + t) (omega arith)
       ∙ sym (getD-take d (drop a P) t 0 h ∙ getD-drop a P t 0) in
-      let rb : getD m (b + t) 0 ≡ getD (take d (drop b P)) t 0 = ap (λ (w : List ℕ). getD w (b + t) 0) e ∙ sets-after (take t (pairLarger P a b d)) P o (b + t) (omega arith)
+      let rb : getD m (b + t) 0 ≡ getD (take d (drop b P)) t 0 =
+      ap (λ (w : List ℕ). getD w (b + t) 0) e ∙ sets-after (take t (pairLarger P a b d)) P o (b + t) (omega arith)
       ∙ sym (getD-take d (drop b P) t 0 h ∙ getD-drop b P t 0) in
       let q : z ≡ getD (pairLarger P a b d) t 0 = ez ∙ ap₂ max ra rb ∙ sym (getD-larger (take d (drop a P)) (take d (drop b P)) t (len-a ∙ sym len-b)) in
       ap (λ (w : ℕ). set m (o + t) w) q ∙ copy-more P m (pairLarger P a b d) o t (omega (arith, pair-length)) e

@@ -54,7 +54,8 @@ module _ {X : Type 0} (row : List X → List ℕ) (d : ℕ) (hr : (ys : List X) 
       let t = top-in m (node-pos x (omega arith)) in
       let before = order-length row d hr turns (firstPart xs) (omega arith) (omega arith) in
       ap (rowAt (2 * (f - a) + topRow m)) (inOrder-two row turns xs (omega arith))
-      ∙ row-first (2 * (f - a) + topRow m) (inOrder row turns (firstPart xs)) (row xs ++ inOrder row turns (secondPart xs)) (length (firstPart xs)) before (omega arith)
+      ∙ row-first (2 * (f - a) + topRow m) (inOrder row turns (firstPart xs))
+      (row xs ++ inOrder row turns (secondPart xs)) (length (firstPart xs)) before (omega arith)
       ∙ node-row x turns (firstPart xs) (c ∙ k) (omega arith) (omega arith)
       ∙ ap row (ap (take m) (drop-take (f - a) (half (length xs)) xs) ∙ take-take m (half (length xs) - (f - a)) (drop (f - a) xs) (omega arith))
   node-row {a} {n} {f} {m} (high o x) zero xs l h u = absurd (omega arith)
@@ -71,7 +72,8 @@ module _ {X : Type 0} (row : List X → List ℕ) (d : ℕ) (hr : (ys : List X) 
       ∙ node-row x turns (secondPart xs) (omega arith) (omega arith) (omega arith)
       ∙ ap row (ap (take m) (drop-drop (f - (a + half n)) (half (length xs)) xs ∙ ap (λ (i : ℕ). drop i xs) z))
 
-  pub order-node : (xs : List X) {f m : ℕ} → 0 < length xs → Node 0 (length xs) f m → take d (drop ((2 * f + topRow m) * d) (inOrder row (length xs) xs)) ≡ row (take m (drop f xs))
+  pub order-node : (xs : List X) {f m : ℕ} → 0 < length xs → Node 0 (length xs) f m
+      → take d (drop ((2 * f + topRow m) * d) (inOrder row (length xs) xs)) ≡ row (take m (drop f xs))
   unfolding rowAt
   order-node xs {f} {m} h x =
       let z : f - 0 ≡ f = omega arith in

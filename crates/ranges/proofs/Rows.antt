@@ -65,7 +65,8 @@ module _ {X : Type 0} (row : List X → List ℕ) where
               ap length (inOrder-one (suc n) xs (omega arith)) ∙ hr xs ∙ sym (ap (λ (z : ℕ). z * d) e ∙ one-mul d)
         ]
       where
-        two : 1 < length xs → length (inOrder row n (firstPart xs)) ≡ stretchCells d (length (firstPart xs)) → length (inOrder row n (secondPart xs)) ≡ stretchCells d (length (secondPart xs))
+        two : 1 < length xs → length (inOrder row n (firstPart xs)) ≡ stretchCells d (length (firstPart xs))
+            → length (inOrder row n (secondPart xs)) ≡ stretchCells d (length (secondPart xs))
             → length (inOrder row (suc n) xs) ≡ stretchCells d (length xs)
         two h x y =
             let f = first-length xs in

@@ -47,7 +47,8 @@ module _ (b : ℕ) (ks : List Meant.Task) (e d : ℕ) where
 take-one : {X : Type 0} (z : X) (p : ℕ) (xs : List X) → p < length xs → take 1 (drop p xs) ≡ getD xs p z ∷ []
 take-one z p xs h = rw (drop-cons xs p z h)
 
-chosen-paths : (ks : List Meant.Task) (d : ℕ) (ps : List ℕ) → length ks ≤ length ps → AtPaths (topOf ks d) ps → pathsIn (chosen (topOf ks d) ps) ≡ pathsAt ks d ps
+chosen-paths : (ks : List Meant.Task) (d : ℕ) (ps : List ℕ) → length ks ≤ length ps
+    → AtPaths (topOf ks d) ps → pathsIn (chosen (topOf ks d) ps) ≡ pathsAt ks d ps
 chosen-paths [] d ps l h = refl
 chosen-paths (k ∷ ks) d [] l h = absurd (omega arith)
 chosen-paths (k ∷ ks) d (p ∷ ps) l h =

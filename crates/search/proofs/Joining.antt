@@ -34,7 +34,8 @@ use Rattle.areas.proofs.Filling.{Few, task-sound, counts-length, need-is, at}
 getD-gather : (f : Meant.Task → List ℕ) (xs : List Meant.Task) (j i : ℕ) → j < length xs → i < length (f (getD xs j noTask))
     → getD (gather f xs) (length (gather f (take j xs)) + i) 0 ≡ getD (f (getD xs j noTask)) i 0
 getD-gather f [] j i h l = absurd (omega arith)
-getD-gather f (x ∷ xs) zero i h l = let e : 0 + i ≡ i = omega arith in ap (λ (n : ℕ). getD (f x ++ gather f xs) n 0) e ∙ List·getD-append (f x) (gather f xs) 0 i l
+getD-gather f (x ∷ xs) zero i h l = let e : 0 + i ≡ i = omega arith in
+    ap (λ (n : ℕ). getD (f x ++ gather f xs) n 0) e ∙ List·getD-append (f x) (gather f xs) 0 i l
 getD-gather f (x ∷ xs) (suc j) i h l =
     let e : length (f x ++ gather f (take j xs)) + i ≡ length (f x) + (length (gather f (take j xs)) + i) = rw length-append (omega arith) in
     ap (λ (n : ℕ). getD (f x ++ gather f xs) n 0) e
@@ -77,7 +78,8 @@ module _ (ks : List Meant.Task) (d : ℕ) (few : Few ks d) where
       let p = at ks d few j q in
       let row = 2 * f + topRow m in
       let one : suc row ≤ 2 * getD (a .counts) j 0 - 1 = omega (arith, node-in x, top-in m (node-pos x (p .some))) in
-      let long : length (stretchOf (task j) d) ≡ stretchCells d (getD (a .counts) j 0) = stretch-length (task j) d (some-path j q) ∙ ap (stretchCells d) (sym (p .paths)) in
+      let long : length (stretchOf (task j) d) ≡ stretchCells d (getD (a .counts) j 0) =
+      stretch-length (task j) d (some-path j q) ∙ ap (stretchCells d) (sym (p .paths)) in
       let fits : row * d + u < length (stretchOf (task j) d) = omega (arith, long, mul-le-mul-right d one, suc-mul row d) in
       let place : getD (a .roots) j 0 + row * d + u ≡ length (stretches (take j ks) d) + (row * d + u) = omega (arith, p .from) in
       ap (λ (n : ℕ). getD work n 0) place ∙ getD-gather (λ (y : Meant.Task). stretchOf y d) ks j (row * d + u) q fits
@@ -95,7 +97,8 @@ module _ (ks : List Meant.Task) (d : ℕ) (few : Few ks d) where
 
   pub counts-are : take (length ks) (a .counts) ≡ sizes Gs
   counts-are =
-      let long : length (take (length ks) (a .counts)) ≡ length ks = length-take-le (length ks) (a .counts) (omega (arith, few .seven, above-counts d (pathCounts ks d) seven)) in
+      let long : length (take (length ks) (a .counts)) ≡ length ks =
+      length-take-le (length ks) (a .counts) (omega (arith, few .seven, above-counts d (pathCounts ks d) seven)) in
       ext-getD 0 (take (length ks) (a .counts)) (sizes Gs) (long ∙ sym (length-map Gs length ∙ group-many))
       (λ j m.
       let b : j < length ks = omega arith in
@@ -116,5 +119,6 @@ module _ (ks : List Meant.Task) (d : ℕ) (few : Few ks d) where
         rise = λ j q f m x u v.
             rw (cell-at j q f m x u (omega arith), cell-at j q f m x (suc u) v)
             (row-rises (task j) d (some-path j q) (subst (λ (n : ℕ). Node 0 n f m) (at ks d few j q .paths) x) u v);
-        cells = λ j q f m x u v. rw (cell-at j q f m x u v) (le-trans (cell-bound (task j) (task-sound ks d few j q) d ((2 * f + topRow m) * d + u)) (omega (arith, few .short)));
+        cells = λ j q f m x u v. rw (cell-at j q f m x u v)
+            (le-trans (cell-bound (task j) (task-sound ks d few j q) d ((2 * f + topRow m) * d + u)) (omega (arith, few .short)));
       }

@@ -36,7 +36,8 @@ undone : {X Y : Type 0} (f : X → Y) (g : Y → X) → ((x : X) → g (f x) ≡
 undone f g h [] = refl
 undone {X} f g h (x ∷ xs) = ap₂ {C = List X} (λ (y : X) (ys : List X). y ∷ ys) (h x) (undone f g h xs)
 
-unpadded : {X Y : Type 0} (f : X → Y) (g : Y → X) → ((x : X) → g (f x) ≡ x) → (n : ℕ) (z : Y) (xs : List X) → map g (take (length xs) (padded n z (map f xs))) ≡ xs
+unpadded : {X Y : Type 0} (f : X → Y) (g : Y → X) → ((x : X) → g (f x) ≡ x)
+    → (n : ℕ) (z : Y) (xs : List X) → map g (take (length xs) (padded n z (map f xs))) ≡ xs
 unpadded {X} {Y} f g h n z xs = ap (λ (k : ℕ). map g (take k (padded n z (map f xs)))) (same xs) ∙ ap (map g) (take-padded n z (map f xs)) ∙ undone f g h xs
   where
     same : (ys : List X) → length ys ≡ length (map f ys)

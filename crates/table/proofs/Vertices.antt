@@ -40,14 +40,16 @@ module _ (t : Table) (k : Held t) (i : ℕ) (l : i < t .n) where
   own-few =
       let s = held-sound t k i l .vertexCount in (
         omega (arith, own-size),
-        ap (λ (x : Task). length (x .vertices)) (held-task t k blankTask i l) ∙ length-padded mostVertices Blank.noVertex (map vertexRecord (taskAt ts i .vertices)) (omega (arith, length-map (taskAt ts i .vertices) vertexRecord)),
+        ap (λ (x : Task). length (x .vertices)) (held-task t k blankTask i l) ∙ length-padded mostVertices Blank.noVertex
+            (map vertexRecord (taskAt ts i .vertices)) (omega (arith, length-map (taskAt ts i .vertices) vertexRecord)),
       )
 
   module _ (v : ℕ) (m : v < ownTask t i .nv) where
     pub job-is : ownVertex t i v ≡ vertexRecord (vertexAt (taskAt ts i) v)
     job-is =
         ap (λ (x : Task). getD (x .vertices) v Blank.noVertex) (held-task t k blankTask i l)
-        ∙ getD-padded mostVertices Blank.noVertex Blank.noVertex (map vertexRecord (taskAt ts i .vertices)) v (omega (arith, length-map (taskAt ts i .vertices) vertexRecord, own-size))
+        ∙ getD-padded mostVertices Blank.noVertex Blank.noVertex (map vertexRecord (taskAt ts i .vertices)) v
+        (omega (arith, length-map (taskAt ts i .vertices) vertexRecord, own-size))
         ∙ getD-mapped vertexRecord Blank.noVertex noVertex (taskAt ts i .vertices) v (omega (arith, own-size))
 
     pub job-sound : SoundVertex (vertexAt (taskAt ts i) v)

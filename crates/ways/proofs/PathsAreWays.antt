@@ -37,7 +37,8 @@ module _ {k : Task} {e start to p : List ℕ} (c : ColumnsOf k e start to p) whe
       → gather F (roomy v room a m) ≡ map (tos to) (gather (onward to p on room) (countFrom a m))
   by-edges F on v room a zero h = refl
   by-edges F on v room a (suc m) h =
-      go (ltb (getD p a 0) room) (onBy a (on (room - getD p a 0) (getD to a 0))) (gather (onward to p on room) (countFrom (suc a) m)) (h a (omega arith) (omega arith))
+      go (ltb (getD p a 0) room) (onBy a (on (room - getD p a 0) (getD to a 0)))
+      (gather (onward to p on room) (countFrom (suc a) m)) (h a (omega arith) (omega arith))
       (by-edges F on v room (suc a) m (λ j x y. h j (omega arith) (omega arith)))
     where
       go : (b : Bool) (first others : List (List ℕ)) → F (edgeAt to p v a) ≡ map (tos to) first → gather F (roomy v room (suc a) m) ≡ map (tos to) others

@@ -27,7 +27,8 @@ module _ {k : Task} {e start to p : List ℕ} (c : ColumnsOf k e start to p) whe
 
   flat : (a n x : ℕ) (f : ℕ → ℕ) → ((t : ℕ) → a ≤ t → t < a + n → f t ≡ x) → replicate n x ≡ map f (countFrom a n)
   flat a zero x f h = refl
-  flat a (suc n) x f h = ap₂ (λ (y : ℕ) (z : List ℕ). y ∷ z) (sym (h a (omega arith) (omega arith))) (flat (suc a) n x f (λ t l m. h t (omega arith) (omega arith)))
+  flat a (suc n) x f h = ap₂ (λ (y : ℕ) (z : List ℕ). y ∷ z) (sym (h a (omega arith) (omega arith)))
+      (flat (suc a) n x f (λ t l m. h t (omega arith) (omega arith)))
 
   count-split : (a n m : ℕ) → countFrom a (n + m) ≡ countFrom a n ++ countFrom (a + n) m
   count-split a zero m = let z : 0 + m ≡ m = omega arith in ap₂ (λ (x y : ℕ). countFrom x y) (sym (add-zero a)) z
@@ -54,7 +55,8 @@ module _ {k : Task} {e start to p : List ℕ} (c : ColumnsOf k e start to p) whe
 
   runs-loads : (room below v : ℕ) (h : List ℕ) → v < mostVertices → Taken start to p room v h → runs e to p room below v h ≡ cellsFrom room below v h
   runs-loads room below v [] hv w =
-      flat 1 room (below + getD e v 0) (λ (t : ℕ). below + runOn k v [] t) (λ t a b. ap (λ (x : ℕ). below + x) (room-pos t (execution k v) a ∙ sym (c .executions v hv)))
+      flat 1 room (below + getD e v 0) (λ (t : ℕ). below + runOn k v [] t)
+      (λ t a b. ap (λ (x : ℕ). below + x) (room-pos t (execution k v) a ∙ sym (c .executions v hv)))
   runs-loads room below v (j ∷ h) hv w =
       let s = separation-at v j hv (w .0) (w .1) in
       let q = getD p j 0 in
@@ -77,7 +79,8 @@ module _ {k : Task} {e start to p : List ℕ} (c : ColumnsOf k e start to p) whe
       let m = room-pos (q + t) (execution k v + runOn k u (tos to h) (q + t - separation k v u)) (omega arith) in
       omega arith))
       ∙ sym (map-append (λ (t : ℕ). below + runOn k v (tos to (j ∷ h)) t) (countFrom 1 q) (countFrom (q + 1) (room - q)))
-      ∙ ap (map (λ (t : ℕ). below + runOn k v (tos to (j ∷ h)) t)) (ap (λ (x : ℕ). countFrom 1 q ++ countFrom x (room - q)) (sym y) ∙ sym (count-split 1 q (room - q)) ∙ ap (countFrom 1) z)
+      ∙ ap (map (λ (t : ℕ). below + runOn k v (tos to (j ∷ h)) t))
+      (ap (λ (x : ℕ). countFrom 1 q ++ countFrom x (room - q)) (sym y) ∙ sym (count-split 1 q (room - q)) ∙ ap (countFrom 1) z)
 
   row-loads : (d v : ℕ) (h : List ℕ) → v < mostVertices → List·Memᴰ h (waysFrom start to p d d v) → runs e to p d 0 v h ≡ loadRow k d (verticesBy to v h)
   row-loads d v h hv m =

@@ -45,7 +45,8 @@ module _ (start to p : List ℕ) (s : SoundColumns start to p) where
       (getD start v 0) (getD start (v + 1) 0 - getD start v 0)
       (λ j. ap (λ (b : Bool). pick b (onBy j (waysFrom start to p n (0 - getD p j 0) (getD to j 0))) []) (le-ltb (getD p j 0) 0 zero-le)))
 
-  pub edge-below : (v j : ℕ) → v < mostVertices → getD start v 0 ≤ j → j < getD start v 0 + (getD start (v + 1) 0 - getD start v 0) → j < getD start mostVertices 0
+  pub edge-below : (v j : ℕ) → v < mostVertices → getD start v 0 ≤ j
+      → j < getD start v 0 + (getD start (v + 1) 0 - getD start v 0) → j < getD start mostVertices 0
   edge-below v j h a b = omega (arith, s .rise v h, s .ends v h)
 
   fuel : (n m room v : ℕ) → room ≤ n → room ≤ m → v < mostVertices → waysFrom start to p n room v ≡ waysFrom start to p m room v
@@ -96,19 +97,22 @@ orStop-length [] = refl
 orStop-length (h ∷ hs) = omega arith
 
 module _ (start to p : List ℕ) where
-  pub step-yes : (r k e : ℕ) → k < e → getD p k 0 < r → byEdges start to p r k e ≡ onBy k (ways start to p (getD to k 0) (r - getD p k 0)) ++ byEdges start to p r (k + 1) e
+  pub step-yes : (r k e : ℕ) → k < e → getD p k 0 < r
+      → byEdges start to p r k e ≡ onBy k (ways start to p (getD to k 0) (r - getD p k 0)) ++ byEdges start to p r (k + 1) e
   step-yes r k e h l = by-edges-more start to p r k e h ∙ ap (λ (z : List (List ℕ)). z ++ byEdges start to p r (k + 1) e) (by-edge-yes start to p r k l)
 
   pub step-no : (r k e : ℕ) → k < e → r ≤ getD p k 0 → byEdges start to p r k e ≡ byEdges start to p r (k + 1) e
   step-no r k e h l = by-edges-more start to p r k e h ∙ ap (λ (z : List (List ℕ)). z ++ byEdges start to p r (k + 1) e) (by-edge-no start to p r k l)
 
-  pub length-yes : (r k e : ℕ) → k < e → getD p k 0 < r → length (byEdges start to p r k e) ≡ length (ways start to p (getD to k 0) (r - getD p k 0)) + length (byEdges start to p r (k + 1) e)
+  pub length-yes : (r k e : ℕ) → k < e → getD p k 0 < r
+      → length (byEdges start to p r k e) ≡ length (ways start to p (getD to k 0) (r - getD p k 0)) + length (byEdges start to p r (k + 1) e)
   length-yes r k e h l =
       ap length (step-yes r k e h l)
       ∙ length-append (onBy k (ways start to p (getD to k 0) (r - getD p k 0))) (byEdges start to p r (k + 1) e)
       ∙ ap (λ (z : ℕ). z + length (byEdges start to p r (k + 1) e)) (length-map (ways start to p (getD to k 0) (r - getD p k 0)) (λ (h : List ℕ). k ∷ h))
 
-pub length-ways : (start to p : List ℕ) → SoundColumns start to p → (v r : ℕ) → v < mostVertices → 0 < r → length (ways start to p v r) ≡ max 1 (length (byEdges start to p r (getD start v 0) (getD start (v + 1) 0)))
+pub length-ways : (start to p : List ℕ) → SoundColumns start to p → (v r : ℕ) → v < mostVertices → 0 < r
+    → length (ways start to p v r) ≡ max 1 (length (byEdges start to p r (getD start v 0) (getD start (v + 1) 0)))
 length-ways start to p s v r h l = ap length (ways-step start to p s v r h l) ∙ orStop-length (byEdges start to p r (getD start v 0) (getD start (v + 1) 0))
 
 pub orStop-some : (hs : List (List ℕ)) → 0 < length hs → orStop hs ≡ hs

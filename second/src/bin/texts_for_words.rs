@@ -1,7 +1,6 @@
-//! Writes the texts that the words for people are checked with: a sequence as `second cases` reads it.
+//! Writes the texts that the words for people are checked with, each to a file of its own in the folder that the argument names.
 //!
-//! The files that the arguments name, the bench examples, faulty lines of every kind, each verdict, and random tables. The sequence is
-//! the same from run to run.
+//! The bench examples, faulty lines of every kind, each verdict, and random tables. The texts are the same from run to run.
 
 #![forbid(unsafe_code)]
 
@@ -10,8 +9,7 @@ mod made;
 use made::refusals::{with, LINES};
 use made::{bench, random_task, self_edge, task, text, Random, Size};
 use second::bounds::INPUT_BYTES;
-use second::case::WORDS;
-use second::sequence::write_sequence;
+use std::path::PathBuf;
 use std::{env, fs, io};
 
 /// How many random tables are written.
@@ -24,17 +22,27 @@ const SIZE: Size = Size {
     p: 6,
 };
 
-/// Writes a case for each text.
+/// Writes a file for each text; its name is the text's number.
 fn main() -> io::Result<()> {
-    let files: io::Result<Vec<_>> = env::args_os().skip(1).map(fs::read).collect();
-    let mut texts = files?;
-    texts.extend(bench::texts().into_iter().map(String::into_bytes));
+    let arguments: Vec<_> = env::args_os().skip(1).map(PathBuf::from).collect();
+    let [folder] = arguments.as_slice() else {
+        return Err(io::Error::other("usage: texts_for_words FOLDER"));
+    };
+    for (number, text) in texts().into_iter().enumerate() {
+        fs::write(folder.join(format!("{number:03}")), text)?;
+    }
+    Ok(())
+}
+
+/// All texts.
+fn texts() -> Vec<Vec<u8>> {
+    let mut texts: Vec<_> = bench::texts().into_iter().map(String::into_bytes).collect();
     lines(&mut texts);
     rules(&mut texts);
     ends(&mut texts);
     verdicts(&mut texts);
     random(&mut texts);
-    write_sequence(WORDS, texts)
+    texts
 }
 
 /// Refusal 1 with lines that can't be shown as they are: empty, unseen bytes, the backslash, and lines around the longest shown.

@@ -45,14 +45,21 @@ loop-again c =
     let l = c .before .before .before .loop in
     let h = c .before .if1 .taken in
     let t = s .args .t in
-    let r = ready t (s .pre) in
-    (omega arith, front-more t r fromIn (l .from) (l .k) refl h (l .inv .1), front-more t r toIn (l .to) (l .k) refl h (l .inv .2), front-more t r pIn (l .p) (l .k) refl h (l .inv .3))
+    let r = ready t (s .pre) in (
+      omega arith,
+      front-more t r fromIn (l .from) (l .k) refl h (l .inv .1),
+      front-more t r toIn (l .to) (l .k) refl h (l .inv .2),
+      front-more t r pIn (l .p) (l .k) refl h (l .inv .3),
+    )
 
 edge-starts-requires : tie.Need-edge-starts-requires Inv-loop μ-loop
 edge-starts-requires c κs =
     let s = c .before .before .before .before .before in
-    let l = c .before .before .before .loop in
-    (ready _ (s .pre) .links, column-sorted (s .args .t) (ready _ (s .pre)) (l .from) (front-all (s .args .t) fromIn (l .from) (l .k) (omega arith) (l .inv .1)))
+    let l = c .before .before .before .loop in (
+      ready _ (s .pre) .links,
+      column-sorted (s .args .t) (ready _ (s .pre)) (l .from)
+          (front-all (s .args .t) fromIn (l .from) (l .k) (omega arith) (l .inv .1)),
+    )
 
 executions-requires : tie.Need-executions-requires Inv-loop μ-loop
 executions-requires c κs =

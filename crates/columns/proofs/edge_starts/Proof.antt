@@ -38,7 +38,8 @@ loop-again : tie.Need-loop-again Inv-loop μ-loop
 loop-again c =
     let l = c .before .before .loop in
     let s = c .before .before .before in
-    cutting-more (s .args .from .now) (s .args .m) (l .s) (l .k) (l .v) (c .edges-end .result) (s .pre .1) (l .inv) (c .before .loop-test .taken) (c .edges-end .ensures)
+    cutting-more (s .args .from .now) (s .args .m) (l .s) (l .k) (l .v) (c .edges-end .result)
+    (s .pre .1) (l .inv) (c .before .loop-test .taken) (c .edges-end .ensures)
 
 returns : tie.Need-returns Inv-loop μ-loop
 returns c = λ u h. c .before .loop .inv .cuts u (omega arith)

@@ -39,7 +39,8 @@ same-length : tie.Need-same-length
 same-length c = search needs
 
 returns : tie.Need-returns
-returns c = table-told (c .before .before .before .before .before .before .judge-table .ensures) (c .before .before .verdict .given .1) (c .counts-number .ensures)
+returns c = table-told (c .before .before .before .before .before .before .judge-table .ensures)
+    (c .before .before .verdict .given .1) (c .counts-number .ensures)
 
 same-length-2 : tie.Need-same-length-2
 same-length-2 c = search needs
@@ -48,7 +49,8 @@ returns-2 : tie.Need-returns-2
 returns-2 c =
     let told = c .before .before .before .verdict2 .given in
     let number = c .before .refusal-number in
-    table-told (c .before .before .before .before .before .before .before .judge-table .ensures) (told .1) (ap (λ (n : ℕ). n * 4294967296 + told .0 .0 .place) (number .ensures))
+    table-told (c .before .before .before .before .before .before .before .judge-table .ensures)
+    (told .1) (ap (λ (n : ℕ). n * 4294967296 + told .0 .0 .place) (number .ensures))
 
 pub tectavirio-judge-table-spec : {M : Type 1} → statement M
 tectavirio-judge-table-spec =

@@ -38,8 +38,11 @@ enum-told c = search needs
 table-lines-requires : tie.Need-table-lines-requires
 table-lines-requires c κs =
     let told = c .before .before in
-    let was = told .before .before in
-    (read-held (table-read (was .before .before .before .before .before .before .args .text .now) (was .read .result) (was .read .ensures) (told .enum-told .given .1)), search needs)
+    let was = told .before .before in (
+      read-held (table-read (was .before .before .before .before .before .before .args .text .now)
+          (was .read .result) (was .read .ensures) (told .enum-told .given .1)),
+      search needs,
+    )
 
 same-length-2 : tie.Need-same-length-2
 same-length-2 c = search needs

@@ -53,7 +53,8 @@ element-copy-out-own c =
     let was = told .before .before in
     let entry = was .before .before .before .before in
     let table = table-read (entry .args .text .now) (was .read .result) (was .read .ensures) (told .enum-told .given .1) in
-    let l : entry .args .task .0 < was .read .result .table .n = leb-false (was .read .result .table .n) (entry .args .task .0) (sym (sought .no-such .ensures) ∙ asked .if1 .left) in
+    let l : entry .args .task .0 < was .read .result .table .n =
+    leb-false (was .read .result .table .n) (entry .args .task .0) (sym (sought .no-such .ensures) ∙ asked .if1 .left) in
     omega (arith, held-few (was .read .result .table) (read-held table))
 
 no-such-requires-2 : tie.Need-no-such-requires-2
@@ -72,7 +73,8 @@ returns-2 c =
     let was = told .before .before in
     let entry = was .before .before .before .before in
     let table = table-read (entry .args .text .now) (was .read .result) (was .read .ensures) (told .enum-told .given .1) in
-    let l : entry .args .task .0 < was .read .result .table .n = leb-false (was .read .result .table .n) (entry .args .task .0) (sym (sought .no-such .ensures) ∙ asked .if1 .left) in
+    let l : entry .args .task .0 < was .read .result .table .n =
+    leb-false (was .read .result .table .n) (entry .args .task .0) (sym (sought .no-such .ensures) ∙ asked .if1 .left) in
     let h = leb-true _ _ (sym (sought2 .no-such2 .ensures) ∙ asked2 .if2 .taken) in
     table-answers (entry .args .text .now) (entry .args .task .0) (entry .args .vertex .0) (entry .args .budget) (entry .args .work .now)
     (entry .args .witness .now) (was .read .result .table) _ _ _ table
@@ -89,7 +91,8 @@ judge-vertex-requires c κs =
     let was = told .before .before in
     let entry = was .before .before .before .before in
     let table = table-read (entry .args .text .now) (was .read .result) (was .read .ensures) (told .enum-told .given .1) in
-    let l : entry .args .task .0 < was .read .result .table .n = leb-false (was .read .result .table .n) (entry .args .task .0) (sym (sought .no-such .ensures) ∙ asked .if1 .left) in
+    let l : entry .args .task .0 < was .read .result .table .n =
+    leb-false (was .read .result .table .n) (entry .args .task .0) (sym (sought .no-such .ensures) ∙ asked .if1 .left) in
     let m = leb-false _ _ (sym (sought2 .no-such2 .ensures) ∙ asked2 .if2 .left) in (
       read-held table,
       is-there (was .read .result .table) (read-held table) (entry .args .task .0) (entry .args .vertex .0)

@@ -163,8 +163,16 @@ rows-from-rows-from-requires t c κs =
     let l = led .light in
     let r = led .room in
     let over = at-if1 .if1 .left in
-    let room = going-room (at-loop .loop .inv) (asked .0) (at-loop-test .loop-test .taken) (omega arith) led (asked .1 .1) in
-    (omega arith, (asked .0, ((omega arith, omega arith, asked .1 .0 .2, omega arith, run-length (at-fill-run .fill-run .ensures) (at-loop .loop .inv .cells)), room)))
+    let room = going-room (at-loop .loop .inv) (asked .0) (at-loop-test .loop-test .taken) (omega arith) led (asked .1 .1) in (
+      omega arith,
+      (
+        asked .0,
+        (
+          (omega arith, omega arith, asked .1 .0 .2, omega arith, run-length (at-fill-run .fill-run .ensures) (at-loop .loop .inv .cells)),
+          room,
+        ),
+      ),
+    )
 
 rows-from-add-k-2 : (t : ℕ) → rows-from-lts.Need-add-k-2 (claims t) (rows-from-at t) rows-from.Post Inv-loop μ-loop
 rows-from-add-k-2 t c =
@@ -248,7 +256,8 @@ rows-from-returns t c =
     let x = at-execution .execution in
     let ex = x .ensures in
     put-led (at-follow-row .follow-row .ensures) (x .ensures .0)
-    (put-alone (at-loop .loop .inv) (asked .0) (at-loop-test .loop-test .left) (at-follow-row .follow-row .result .below + x .result) (omega arith) (at-if2 .if2 .taken) (asked .1 .0 .2)
+    (put-alone (at-loop .loop .inv) (asked .0) (at-loop-test .loop-test .left)
+    (at-follow-row .follow-row .result .below + x .result) (omega arith) (at-if2 .if2 .taken) (asked .1 .0 .2)
     (loadsIn (at-fill-run2 .fill-run2 .last .0)) (at-fill-run2 .fill-run2 .ensures) (at-copy-row .copy-row .last .0) (at-copy-row .copy-row .ensures))
 
 rows-from-same-length-2 : (t : ℕ) → rows-from-lts.Need-same-length-2 (claims t) (rows-from-at t) rows-from.Post Inv-loop μ-loop

@@ -29,8 +29,13 @@ rows-from-requires c κs =
     let at-if1 = c .before .before in
     let at-loop = at-if1 .before .before in
     let at-pre = at-loop .before .before in
-    let asked = at-pre .pre in
-    (asked .0, ((omega arith, omega arith, omega arith, omega arith, at-loop .loop .inv .cells), filling-room (at-loop .loop .inv) (at-if1 .if1 .taken) (asked .1 .1)))
+    let asked = at-pre .pre in (
+      asked .0,
+      (
+        (omega arith, omega arith, omega arith, omega arith, at-loop .loop .inv .cells),
+        filling-room (at-loop .loop .inv) (at-if1 .if1 .taken) (asked .1 .1),
+      ),
+    )
 
 add-t17 : tie.Need-add-t17 Inv-loop μ-loop
 add-t17 c = omega arith

@@ -27,7 +27,16 @@ build-below t = and 1 build-kinds.ps (falls 1 build-kinds.ps _<_ μ-build t) bui
 
 -- the readings of the callees, once
 abbrev claims : ℕ → build-lts.Claims
-claims t = (half-reads.Asked, half-reads.Learnt, build-below t, build.Post, top-row-reads.Asked, top-row-reads.Learnt, larger-row-reads.Asked, larger-row-reads.Learnt)
+claims t = (
+  half-reads.Asked,
+  half-reads.Learnt,
+  build-below t,
+  build.Post,
+  top-row-reads.Asked,
+  top-row-reads.Learnt,
+  larger-row-reads.Asked,
+  larger-row-reads.Learnt,
+)
 
 -- ---- the places on the way
 
@@ -39,11 +48,13 @@ entry t c = c .before .before .before
 
 -- where the parts' rows lie
 lie : (t : ℕ) (c : Halved t) → Parts (entry t c .args .d) (entry t c .args .len) (c .half .result) (entry t c .args .part .now)
-lie t c = let s = entry t c in parts (s .args .d) (s .args .len) (c .half .result) (s .args .part .now) (c .before .if1 .left) (s .pre .1 .0) (c .half .ensures) (s .pre .1 .3)
+lie t c = let s = entry t c in
+    parts (s .args .d) (s .args .len) (c .half .result) (s .args .part .now) (c .before .if1 .left) (s .pre .1 .0) (c .half .ensures) (s .pre .1 .3)
 
 -- the first part is built, and the stretch is as long as before
 one-built : (t : ℕ) (c : build-lts.After-build (claims t) (build-at t) build.Post)
-    → let h = c .before .before in let s = entry t h .args in length (firstBuilt (s .d) (h .half .result) (s .part .now) (c .build .last .0)) ≡ length (s .part .now)
+    → let h = c .before .before in
+    let s = entry t h .args in length (firstBuilt (s .d) (h .half .result) (s .part .now) (c .build .last .0)) ≡ length (s .part .now)
 one-built t c = first-back (lie t (c .before .before)) (c .build .last .0) (c .build .ensures)
 
 -- both parts are
@@ -90,8 +101,15 @@ build-build-requires : (t : ℕ) → build-lts.Need-build-requires (claims t) (b
 build-build-requires t c κs =
     let at-half = c .before in
     let s = entry t at-half in
-    let g = lie t at-half in
-    (omega arith, (omega arith, omega arith, omega arith, length-take-le (stretchCells (s .args .d) (at-half .half .result)) (s .args .part .now) (omega arith)))
+    let g = lie t at-half in (
+      omega arith,
+      (
+        omega arith,
+        omega arith,
+        omega arith,
+        length-take-le (stretchCells (s .args .d) (at-half .half .result)) (s .args .part .now) (omega arith),
+      ),
+    )
 
 build-mul-build : (t : ℕ) → build-lts.Need-mul-build (claims t) (build-at t) build.Post
 build-mul-build t c =
@@ -171,12 +189,14 @@ build-larger-row-requires t c κs =
 
 -- the row between the parts is the larger of theirs
 whole : (t : ℕ) (c : build-lts.After-larger-row (claims t) (build-at t) build.Post)
-    → let s = entry t (c .before .before .before .before .before .before .before .before .before .before .before .before) in c .larger-row .last .0 ≡ built (s .args .d) (s .args .len) (s .args .part .now)
+    → let s = entry t (c .before .before .before .before .before .before .before .before .before .before .before .before) in
+    c .larger-row .last .0 ≡ built (s .args .d) (s .args .len) (s .args .part .now)
 whole t c =
     let second = c .before .before .before .before .before .before in
     let first = second .before .before .before .before in
     build-joined (lie t (first .before .before)) (first .build .last .0) (first .build .ensures) (second .build2 .last .0) (second .build2 .ensures)
-    (c .larger-row .last .0) (c .before .before .top-row .result) (c .before .top-row2 .result) (c .before .before .top-row .ensures) (c .before .top-row2 .ensures)
+    (c .larger-row .last .0) (c .before .before .top-row .result) (c .before .top-row2 .result)
+    (c .before .before .top-row .ensures) (c .before .top-row2 .ensures)
     (c .larger-row .ensures)
 
 build-same-length : (t : ℕ) → build-lts.Need-same-length (claims t) (build-at t) build.Post

@@ -28,7 +28,8 @@ returns c =
     let at-build = c .before .before in
     let at-rows = at-build .before .before .before .before .before in
     let s = at-rows .before .before .before in
-    stretch-is (taskOf (s .args .t)) (s .args .d .0) (s .args .paths) (s .args .part .now) (at-rows .path-rows .last .0) (at-build .build .last .0) (s .pre .1 .4) (omega arith)
+    stretch-is (taskOf (s .args .t)) (s .args .d .0) (s .args .paths) (s .args .part .now)
+    (at-rows .path-rows .last .0) (at-build .build .last .0) (s .pre .1 .4) (omega arith)
     (at-rows .path-rows .ensures) (at-build .build .ensures)
 
 pub fill-spec : {M : Type 1} → statement M

@@ -57,8 +57,11 @@ loop-again : tie.Need-loop-again Inv-loop μ-loop
 loop-again c =
     let s = c .before .before .before .before .before .before in
     let l = c .before .before .before .before .loop in
-    let more = larger-more (s .args .part .now) (s .args .o) (s .args .a) (s .args .b) (s .args .d) (s .pre .0) (s .pre .1) (s .pre .2) in
-    (omega arith, more (l .part) (l .t) (c .larger .result) (c .before .before .before .loop-test .taken) (l .inv .1) (c .larger .ensures), length-set (l .part) _ _ ∙ l .inv .2)
+    let more = larger-more (s .args .part .now) (s .args .o) (s .args .a) (s .args .b) (s .args .d) (s .pre .0) (s .pre .1) (s .pre .2) in (
+      omega arith,
+      more (l .part) (l .t) (c .larger .result) (c .before .before .before .loop-test .taken) (l .inv .1) (c .larger .ensures),
+      length-set (l .part) _ _ ∙ l .inv .2,
+    )
 
 same-length : tie.Need-same-length Inv-loop μ-loop
 same-length c = c .before .loop .inv .2

@@ -1,4 +1,5 @@
-use Rattle.reader.proofs.Turn.{Turn, turn-first, FrameTurn, frame-refused, end-not-last, end-last, TaskFacts, task-facts, TaskTurn, lines-few, task-stops, task-more}
+use Rattle.reader.proofs.Turn.{Turn, turn-first, FrameTurn, frame-refused, end-not-last, end-last, TaskFacts, task-facts, TaskTurn, lines-few}
+use Rattle.reader.proofs.Turn.{task-stops, task-more}
 use Rattle.reader.proofs.Result.{reading-reads}
 use Rattle.meaning.specs.Bounds.{mostTasks}
 use Prim.Native.Nat.{_-_}

@@ -14,7 +14,8 @@ slice-reshare-prefix-run : tie.Need-slice-reshare-prefix-run
 slice-reshare-prefix-run c = search needs
 
 slice-aggregate-run : tie.Need-slice-aggregate-run
-slice-aggregate-run c = sym (length-take-le _ ((c .before .before .before .before .before .before .args .work .now)) ((c .before .before .before .before .before .before .pre .0 .2)))
+slice-aggregate-run c = sym (length-take-le _ ((c .before .before .before .before .before .before .args .work .now))
+    ((c .before .before .before .before .before .before .pre .0 .2)))
 
 cast-run : tie.Need-cast-run
 cast-run c = search needs

@@ -27,13 +27,15 @@ area-row-requires : tie.Need-area-row-requires
 area-row-requires c κs = search needs
 
 returns : tie.Need-returns
-returns c = ((c .area-row .ensures)) ∙ row-10 _ _ ((c .before .before .before .args .work)) ((c .before .before .before .args .witness)) ((c .before .if1 .taken))
+returns c = ((c .area-row .ensures))
+    ∙ row-10 _ _ ((c .before .before .before .args .work)) ((c .before .before .before .args .witness)) ((c .before .if1 .taken))
 
 area-row-requires-2 : tie.Need-area-row-requires-2
 area-row-requires-2 c κs = search needs
 
 returns-2 : tie.Need-returns-2
-returns-2 c = ((c .area-row2 .ensures)) ∙ row-11 _ _ ((c .before .before .before .before .args .work)) ((c .before .before .before .before .args .witness)) ((c .before .before .if1 .left)) ((c .before .if2 .taken))
+returns-2 c = ((c .area-row2 .ensures)) ∙ row-11 _ _ ((c .before .before .before .before .args .work))
+    ((c .before .before .before .before .args .witness)) ((c .before .before .if1 .left)) ((c .before .if2 .taken))
 
 returns-3 : tie.Need-returns-3
 returns-3 c = rows-passed _ _ ((c .before .before .before .args .work)) ((c .before .before .before .args .witness)) ((c .before .if1 .left)) ((c .if2 .left))

@@ -18,7 +18,11 @@ cast-next c = search needs
 
 -- src/above.rt:35:21
 mul-next-2 : tie.Need-mul-next-2
-mul-next-2 c = omega (arith, cells-fit ((c .before .before .args .above) .rows) ((c .before .before .args .j)) ((c .before .before .args .d) .0) ((c .before .before .pre .0 .0) .rows) ((c .before .before .pre .0 .1)) ((c .before .before .pre .1 .2)))
+mul-next-2 c = omega (
+  arith,
+  cells-fit ((c .before .before .args .above) .rows) ((c .before .before .args .j))
+      ((c .before .before .args .d) .0) ((c .before .before .pre .0 .0) .rows) ((c .before .before .pre .0 .1)) ((c .before .before .pre .1 .2)),
+)
 
 -- src/above.rt:35:5
 mul-next-3 : tie.Need-mul-next-3

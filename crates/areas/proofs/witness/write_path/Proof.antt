@@ -46,8 +46,12 @@ slice-write-witness-2 : tie.Need-slice-write-witness-2 Inv-loop μ-loop
 slice-write-witness-2 c =
     let at-loop = c .before .before .before in
     let entry = at-loop .before in
-    omega
-    (arith, (at-loop .loop .inv) .1 .same, (at-loop .loop .inv) .1 .room, numbers-length (entry .args .t3 .len) (entry .args .t3 .vertices) ((at-loop .loop .inv) .0))
+    omega (
+      arith,
+      (at-loop .loop .inv) .1 .same,
+      (at-loop .loop .inv) .1 .room,
+      numbers-length (entry .args .t3 .len) (entry .args .t3 .vertices) ((at-loop .loop .inv) .0),
+    )
 
 add-i : tie.Need-add-i Inv-loop μ-loop
 add-i c = search needs
@@ -59,8 +63,12 @@ loop-again : tie.Need-loop-again Inv-loop μ-loop
 loop-again c =
     let test = c .before .before in
     let at-loop = test .before in
-    let entry = at-loop .before in
-    ((at-loop .loop .inv) .0, placing-more _ ((at-loop .loop .inv) .1) (omega (arith, numbers-length (entry .args .t3 .len) (entry .args .t3 .vertices) ((at-loop .loop .inv) .0))) (number-at (entry .args .t3 .len) (entry .args .t3 .vertices) _ (at-loop .loop .i) ((at-loop .loop .inv) .0) (test .loop-test .taken)))
+    let entry = at-loop .before in (
+      (at-loop .loop .inv) .0,
+      placing-more _ ((at-loop .loop .inv) .1)
+          (omega (arith, numbers-length (entry .args .t3 .len) (entry .args .t3 .vertices) ((at-loop .loop .inv) .0)))
+          (number-at (entry .args .t3 .len) (entry .args .t3 .vertices) _ (at-loop .loop .i) ((at-loop .loop .inv) .0) (test .loop-test .taken)),
+    )
 
 add-result : tie.Need-add-result Inv-loop μ-loop
 add-result c = search needs
@@ -73,7 +81,8 @@ returns c =
     let at-loop = c .before in
     let entry = at-loop .before in
     wrote-length-then _ _ _ _ _ _
-    (placing-all (entry .args .t3 .len) ((at-loop .loop .inv) .1) (numbers-length (entry .args .t3 .len) (entry .args .t3 .vertices) ((at-loop .loop .inv) .0)) (c .loop-test .left))
+    (placing-all (entry .args .t3 .len) ((at-loop .loop .inv) .1)
+    (numbers-length (entry .args .t3 .len) (entry .args .t3 .vertices) ((at-loop .loop .inv) .0)) (c .loop-test .left))
 
 pub write-path-spec : {M : Type 1} → statement M
 write-path-spec =

@@ -15,7 +15,8 @@ enum-told-2 c = search needs
 list-table-requires : tie.Need-list-table-requires
 list-table-requires c κs =
     let text = c .before .before .before .before .before .before .before .args .text .now in
-    let r = table-read text (c .before .before .before .before .read .result) (c .before .before .before .before .read .ensures) (c .before .before .enum-told2 .given .1) in
+    let r = table-read text
+    (c .before .before .before .before .read .result) (c .before .before .before .before .read .ensures) (c .before .before .enum-told2 .given .1) in
     (record { whole = r .is; sound = r .sound }, c .before .before .before .before .before .before .before .pre)
 
 same-length : tie.Need-same-length

@@ -8,8 +8,10 @@ use Rattle.meaning.specs.Bounds.{mostVertices}
 use Rattle.table.proofs.Vertices.{ownTask, own-few}
 use Rattle.judge.proofs.Higher.{CountedTo, FilledTo}
 use Rattle.judge.proofs.OneVertex.{Asked, AllCounted, RowsPassed, AllFilled, Ran}
-use Rattle.judge.proofs.OneVertex.{task-in, vertex-in, counting-none, count-asks, answer-9, with-paths-asks, counting-more, area-asks, answer-areas, filling-none}
-use Rattle.judge.proofs.OneVertex.{stretch-asks, filling-more, search-asks, missing-none, write-asks, missing-more, missing-all, cells-few, answer-meets, answer-unfinished, answer-misses}
+use Rattle.judge.proofs.OneVertex.{task-in, vertex-in, counting-none, count-asks, answer-9, with-paths-asks, counting-more, area-asks, answer-areas}
+use Rattle.judge.proofs.OneVertex.{filling-none}
+use Rattle.judge.proofs.OneVertex.{stretch-asks, filling-more, search-asks, missing-none, write-asks, missing-more, missing-all, cells-few}
+use Rattle.judge.proofs.OneVertex.{answer-meets, answer-unfinished, answer-misses}
 use Rattle.judge.proofs.Missing.{MissTo}
 use Rattle.judge.proofs.vertex.judge_vertex.Statement.{statement}
 use Rattle.judge.proofs.vertex.judge_vertex.Tie as tie
@@ -48,7 +50,8 @@ asked entry =
     }
 
 -- where each of the first two loops ends, where no row refuses, and what the walk said
-abbrev counted-all : (c : tie.After-loop Inv-loop μ-loop Inv-loop2 μ-loop2 Inv-loop3 μ-loop3) → AllCounted (asked (c .before .before .before .before .before .before .before .before .before .before))
+abbrev counted-all : (c : tie.After-loop Inv-loop μ-loop Inv-loop2 μ-loop2 Inv-loop3 μ-loop3)
+    → AllCounted (asked (c .before .before .before .before .before .before .before .before .before .before))
 counted-all c = record { above = c .before .loop .above; upTo = c .before .loop .j; counted = c .before .loop .inv; full = c .loop-test .left }
 
 abbrev rows-passed : (c : tie.After-enum-told Inv-loop μ-loop Inv-loop2 μ-loop2 Inv-loop3 μ-loop3) → RowsPassed _ (counted-all (c .before .before .before))
@@ -81,7 +84,8 @@ mul-job c = search needs
 array-copy-out-job : tie.Need-array-copy-out-job Inv-loop μ-loop Inv-loop2 μ-loop2 Inv-loop3 μ-loop3
 array-copy-out-job c =
     let entry = c .before .before .before .before .before .before in
-    let few : ownTask (entry .args .t1) (entry .args .task .0) .nv ≤ mostVertices = own-few (entry .args .t1) (entry .pre .0) (entry .args .task .0) (task-in (asked entry)) .0 in
+    let few : ownTask (entry .args .t1) (entry .args .task .0) .nv ≤ mostVertices =
+    own-few (entry .args .t1) (entry .pre .0) (entry .args .task .0) (task-in (asked entry)) .0 in
     let m : entry .args .vertex .0 < ownTask (entry .args .t1) (entry .args .task .0) .nv = vertex-in (asked entry) in
     omega arith
 

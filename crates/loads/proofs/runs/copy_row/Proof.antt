@@ -51,8 +51,12 @@ loop-again c =
     let at-loop = c .before .before in
     let at-args = at-loop .before .before in
     let s = at-args .args in
-    let l = at-loop .loop in
-    (omega arith, ap (set (l .part) (s .a + l .t)) (loads-at (s .row .now) (l .t)) ∙ copy-more (s .part .now) (l .part) (loadsIn (s .row .now)) (s .a) (l .t) (omega arith) (l .inv .1), length-set (l .part) _ _ ∙ l .inv .2)
+    let l = at-loop .loop in (
+      omega arith,
+      ap (set (l .part) (s .a + l .t)) (loads-at (s .row .now) (l .t))
+          ∙ copy-more (s .part .now) (l .part) (loadsIn (s .row .now)) (s .a) (l .t) (omega arith) (l .inv .1),
+      length-set (l .part) _ _ ∙ l .inv .2,
+    )
 
 same-length : tie.Need-same-length Inv-loop μ-loop
 same-length c = c .before .loop .inv .2

@@ -44,8 +44,12 @@ loop-again : tie.Need-loop-again Inv-loop μ-loop
 loop-again c =
     let at-args = c .before .before .before .before in
     let s = at-args .args in
-    let l = c .before .loop in
-    (omega arith, omega arith, loads-set (l .row) (l .i) (s .x) ∙ run-more (loadsIn (s .row .now)) (loadsIn (l .row)) (s .a .0) (l .i) (s .x) (omega arith) (l .inv .2))
+    let l = c .before .loop in (
+      omega arith,
+      omega arith,
+      loads-set (l .row) (l .i) (s .x)
+          ∙ run-more (loadsIn (s .row .now)) (loadsIn (l .row)) (s .a .0) (l .i) (s .x) (omega arith) (l .inv .2),
+    )
 
 returns : tie.Need-returns Inv-loop μ-loop
 returns c =

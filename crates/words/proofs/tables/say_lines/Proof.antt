@@ -23,7 +23,8 @@ returns : tie.Need-returns
 returns c =
     let told = c .before .before in
     let was = told .before .before in
-    lines-counted (table-read (was .before .before .args .text .now) (was .read .result) (was .read .ensures) (told .enum-told .given .1)) (c .say-vertices .ensures)
+    lines-counted (table-read (was .before .before .args .text .now) (was .read .result) (was .read .ensures) (told .enum-told .given .1))
+    (c .say-vertices .ensures)
 
 returns-2 : tie.Need-returns-2
 returns-2 c =
