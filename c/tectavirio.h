@@ -12,9 +12,9 @@
  *
  * Every call answers whatever the bytes, numbers, budget and lengths are. What a pointer leads to is the host's duty, since no call can see it:
  *   - an area has as many elements as its length says, each of its type and aligned for it; an area of length 0 may have a null pointer;
- *   - `value` and `place` each lead to one number, and are never null;
- *   - what a call may write (work, witness, out, value, place) overlaps nothing else that is lent to the same call, and nobody else reads or writes
- *     it until the call returns; nobody writes the text until then. */
+ *   - `value`, `place` and `finish` each lead to one number, and are never null;
+ *   - what a call may write (work, witness, out, value, place, finish) overlaps nothing else that is lent to the same call, and nobody else reads or
+ *     writes it until the call returns; nobody writes the text until then. */
 #ifndef TECTAVIRIO_H
 #define TECTAVIRIO_H
 
@@ -94,6 +94,20 @@ uint32_t text_check(const uint8_t *text, size_t text_bytes);
  * area. */
 uint8_t tectavirio_judge(const uint8_t *text, size_t text_bytes, uint32_t task, uint32_t vertex, uint32_t budget, uint32_t *work, size_t work_cells,
                          uint16_t *witness, size_t witness_cells, uint32_t *value, uint32_t *place);
+
+/* Judges one vertex like tectavirio_judge, and says how late its latest is. For a choice of paths, one for each higher task, the finish is the first t
+ * from 1 to d at which e plus the loads is at most t; the worst finish is the largest over all choices.
+ *
+ *   verdict      *value                          *place                       *finish
+ *   meets        C, the groups examined          the witness cells written    the worst finish, in ticks
+ *   misses       C                               the witness cells written    0
+ *   unfinished   the budget                      0                            0
+ *   refused      the refusal's number, 1 to 11   what is returned with it     0
+ *
+ * C is that of this call's walk, in which a group is passed over when its own finish is no later than that of some single choice before it. On a meets
+ * the front of the witness area holds the first choice that reaches the worst finish, in the same layout. All else is as above. */
+uint8_t tectavirio_latest(const uint8_t *text, size_t text_bytes, uint32_t task, uint32_t vertex, uint32_t budget, uint32_t *work, size_t work_cells,
+                          uint16_t *witness, size_t witness_cells, uint32_t *value, uint32_t *place, uint32_t *finish);
 
 /* Judges a whole table, with the budget given afresh to each vertex. A readable text gives how many vertices meet, miss, are unfinished and are refused
  * by 9 or 10. A refused text gives its refusal, from 1 to 7, and its line, and nothing is changed. Zeroed from the front are as many work cells as the

@@ -1,5 +1,6 @@
-/* The calls from C, on the cases of the proved program of this name: the text check (c), one vertex (v) and a whole table (t) on marked areas, and the
- * desk's output (d). What is written for a case is what that program writes for it. With a word on the command line the text check is the reader's own.
+/* The calls from C, on the cases of the proved program of this name: the text check (c), one vertex (v), how late its latest is (f) and a whole table (t)
+ * on marked areas, and the desk's output (d). What is written for a case is what that program writes for it. With a word on the command line the text
+ * check is the reader's own.
  *
  * Before a judging call each cell holds its own mark, a number that no judge writes; its line has what the call left in its areas. */
 #include "sequence.h"
@@ -79,14 +80,23 @@ static void check_text(const struct one_case *c) {
     puts("");
 }
 
+/* A vertex's numbers, with f the finish behind its place. */
 static void judge_vertex(const struct one_case *c) {
-    uint32_t value, place;
+    uint32_t value, place, finish, *cells = c->work_cells ? work : NULL;
+    uint16_t *paths = c->witness_cells ? witness : NULL;
+    uint8_t verdict;
     mark_areas(c);
-    uint8_t verdict = tectavirio_judge(c->text, c->length, c->task, c->vertex, c->budget, c->work_cells ? work : NULL, c->work_cells,
-                                       c->witness_cells ? witness : NULL, c->witness_cells, &value, &place);
+    if (c->mode == 'f') {
+        verdict = tectavirio_latest(c->text, c->length, c->task, c->vertex, c->budget, cells, c->work_cells, paths, c->witness_cells, &value, &place, &finish);
+    } else {
+        verdict = tectavirio_judge(c->text, c->length, c->task, c->vertex, c->budget, cells, c->work_cells, paths, c->witness_cells, &value, &place);
+    }
     put(verdict, 1);
     put(value, 4);
     put(place, 4);
+    if (c->mode == 'f') {
+        put(finish, 4);
+    }
     put_work(c->work_cells);
     put_witness(c->witness_cells);
     puts("");
@@ -127,7 +137,8 @@ static void write_output(const struct one_case *c) {
 static void answer(const struct one_case *c) {
     switch (c->mode) {
     case 'c': check_text(c); break;
-    case 'v': judge_vertex(c); break;
+    case 'v':
+    case 'f': judge_vertex(c); break;
     case 't': judge_whole(c); break;
     case 'd': write_output(c); break;
     default: printf("no such mode: %02x\n", c->mode);

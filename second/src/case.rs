@@ -1,11 +1,13 @@
 //! What is asked of a text, with all that is lent for it, and what is answered.
 
-use crate::bounds::BUDGET;
+use crate::bounds::{BUDGET, WITNESS_CELLS};
 use crate::desk::{self, counts, write_bytes};
-use crate::judge::judge;
+use crate::judge::{judge, Counts, Verdict};
+use crate::latest::latest;
 use crate::list::list;
-use crate::table::{TaskNo, VertexNo};
-use crate::words::words;
+use crate::table::{TaskNo, Ticks, VertexNo};
+use crate::text;
+use crate::words::{words, words_with_why};
 
 /// The bytes of a case before its text: mode (1), the text's length (4), task (1), vertex (1), budget (4), work cells (4) and witness cells (4).
 pub const HEADER_BYTES: usize = 19;
@@ -18,12 +20,18 @@ pub const LIST: u8 = b'l';
 pub const DESK: u8 = b'd';
 /// One vertex, on marked areas.
 pub const VERTEX: u8 = b'v';
+/// One vertex and its worst finish, on marked areas.
+pub const FINISH: u8 = b'f';
 /// The whole table, on a marked area.
 pub const TABLE: u8 = b't';
 /// The whole table, with the desk's budget, on an area that isn't looked at.
 pub const UNMARKED: u8 = b'u';
+/// Every vertex of the table with its worst finish, with the desk's budget, on areas that aren't looked at.
+pub const FINISHES: u8 = b'g';
 /// The words for people, and an empty line.
 pub const WORDS: u8 = b'w';
+/// The words for people with the releases that make each meets so late, and an empty line.
+pub const WHY: u8 = b'y';
 
 /// The first work cell's mark; the next ones count on. No load is as large.
 const WORK_MARK: u32 = 0xa5a5_0000;
@@ -94,39 +102,56 @@ impl Case {
         bytes
     }
 
-    /// The answer, by the mode. The work area, of enough cells for any vertex, is for a whole table that is judged unmarked.
+    /// The answer, by the mode. The work area, of enough cells for any vertex, is for what is asked unmarked.
     pub fn answer(&self, work: &mut [u32]) -> Vec<u8> {
         let answer = match self.mode {
             CHECK => desk::check(&self.text),
             LIST => list(&self.text),
             DESK => return with_length(desk::output(&self.text).as_bytes()),
             VERTEX => self.judged(),
+            FINISH => self.finished(),
             TABLE => self.tabled(),
             UNMARKED => counts(&self.text, BUDGET, work) + "\n",
+            FINISHES => finishes(&self.text, work) + "\n",
             WORDS => words(&self.text) + "\n",
+            WHY => words_with_why(&self.text) + "\n",
             mode => format!("no such mode: {mode:02x}\n"),
         };
         answer.into_bytes()
     }
 
-    /// Makes the call on marked areas: a line with the verdict and what both areas hold after it.
+    /// Judges the vertex on marked areas: a line with the verdict and what both areas hold after it.
     ///
     /// The verdict byte; the count, budget or refusal number (4 bytes); the cells or place (4); then the two areas.
     pub fn judged(&self) -> String {
+        self.on_marked(|work, witness| {
+            let (task, vertex) = self.numbers();
+            let verdict = judge(&self.text, task, vertex, self.budget, work, witness);
+            verdict_line(&verdict, verdict.place())
+        })
+    }
+
+    /// Asks how late the vertex's latest is, on marked areas: a line like that of judging it, with the worst finish (4 bytes, zero unless the vertex meets) before the two areas.
+    pub fn finished(&self) -> String {
+        self.on_marked(|work, witness| {
+            let (task, vertex) = self.numbers();
+            let lateness = latest(&self.text, task, vertex, self.budget, work, witness);
+            let mut line = verdict_line(&lateness.verdict(), lateness.place());
+            write_bytes(&mut line, &lateness.finish().0.to_be_bytes());
+            line
+        })
+    }
+
+    /// The numbers of the task and the vertex.
+    fn numbers(&self) -> (TaskNo, VertexNo) {
+        (TaskNo(self.task.into()), VertexNo(self.vertex.into()))
+    }
+
+    /// Makes a call on marked areas: the line that it gives, and then what both areas hold after it.
+    fn on_marked(&self, call: impl FnOnce(&mut [u32], &mut [u16]) -> String) -> String {
         let mut work = self.marked_work();
         let mut witness: Vec<u16> = (WITNESS_MARK..).take(self.witness as usize).collect();
-        let verdict = judge(
-            &self.text,
-            TaskNo(u16::from(self.task)),
-            VertexNo(u16::from(self.vertex)),
-            self.budget,
-            &mut work,
-            &mut witness,
-        );
-        let mut line = String::new();
-        write_bytes(&mut line, &[verdict.kind()]);
-        write_bytes(&mut line, &verdict.value().to_be_bytes());
-        write_number(&mut line, verdict.place());
+        let mut line = call(&mut work, &mut witness);
         write_work(&mut line, &work);
         write_witness(&mut line, &witness);
         line.push('\n');
@@ -148,10 +173,42 @@ impl Case {
     }
 }
 
+/// Asks how late each vertex's latest is: the four counts of these verdicts as the desk's last frame has them, and the sum of the worst finishes (4 bytes); or the frame of a refused text.
+fn finishes(text: &[u8], work: &mut [u32]) -> String {
+    let mut line = String::new();
+    let table = match text::read(text) {
+        Ok(table) => table,
+        Err(refusal) => {
+            desk::write_refusal(&mut line, &refusal);
+            return line;
+        }
+    };
+    let mut witness = [0; WITNESS_CELLS];
+    let mut counts = Counts::default();
+    let mut sum = Ticks(0);
+    for (task, vertex) in table.numbers() {
+        let lateness = latest(text, task, vertex, BUDGET, work, &mut witness);
+        counts.add(&lateness.verdict());
+        sum = sum + lateness.finish();
+    }
+    desk::write_counts(&mut line, &counts);
+    write_bytes(&mut line, &sum.0.to_be_bytes());
+    line
+}
+
 /// Bytes preceded by their number in 4 bytes.
 fn with_length(bytes: &[u8]) -> Vec<u8> {
     // An output is far shorter than 4 bytes can count.
     [&(bytes.len() as u32).to_be_bytes(), bytes].concat()
+}
+
+/// A verdict's first numbers: its byte; the count, budget or refusal number (4 bytes); and the cells or place (4).
+fn verdict_line(verdict: &Verdict, place: usize) -> String {
+    let mut line = String::new();
+    write_bytes(&mut line, &[verdict.kind()]);
+    write_bytes(&mut line, &verdict.value().to_be_bytes());
+    write_number(&mut line, place);
+    line
 }
 
 /// Writes the zeros at the work area's front (4 bytes), and 1 if all cells behind them hold their marks.

@@ -48,7 +48,7 @@ pub(crate) fn read(input: &[u8]) -> Result<Table, Refusal> {
 }
 
 /// Writes the frame of a refused text or input.
-fn write_refusal(lines: &mut String, refusal: &Refusal) {
+pub(crate) fn write_refusal(lines: &mut String, refusal: &Refusal) {
     // The bounds leave a few hundred good lines before a faulty one, so 2 bytes hold its number.
     let [high, low] = (refusal.place as u16).to_be_bytes();
     write_bytes(lines, &[REFUSED_FRAME, refusal.number(), high, low]);
@@ -71,7 +71,7 @@ fn write_table(lines: &mut String, table: &Table) {
 }
 
 /// Writes the frame of the four counts.
-fn write_counts(lines: &mut String, counts: &Counts) {
+pub(crate) fn write_counts(lines: &mut String, counts: &Counts) {
     let &Counts {
         meets,
         misses,

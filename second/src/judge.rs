@@ -128,8 +128,9 @@ pub(crate) fn judge_vertex(
         Ok(judged) => judged,
         Err(refusal) => return Verdict::Refused(refusal),
     };
-    match judged.walk(budget, work) {
-        Outcome::Meets { count } => Verdict::Meets { count },
+    // Later than d finishes just what overloads.
+    match judged.walk(judged.d, budget, work) {
+        Outcome::Meets { count, .. } => Verdict::Meets { count },
         Outcome::Misses { count, witness: at } => {
             let cells = judged.write_witness(&at, witness);
             Verdict::Misses { count, cells }
@@ -139,7 +140,7 @@ pub(crate) fn judge_vertex(
 }
 
 /// A vertex that is judged, with the complete paths of each higher task.
-struct Judged {
+pub(crate) struct Judged {
     e: Ticks,
     d: Ticks,
     higher: Vec<Vec<Path>>,
@@ -147,7 +148,7 @@ struct Judged {
 
 impl Judged {
     /// The judged vertex, if areas of these lengths suffice; refusals 8 to 11.
-    fn admit(
+    pub(crate) fn admit(
         table: &Table,
         task: TaskNo,
         vertex: VertexNo,
@@ -194,16 +195,16 @@ impl Judged {
         self.higher.len() * (1 + self.d.0 as usize)
     }
 
-    /// Walks the groups, and leaves the needed work cells zero.
-    fn walk(&self, budget: u32, work: &mut [u32]) -> Outcome {
+    /// Walks the groups from this bar on, and leaves the needed work cells zero.
+    pub(crate) fn walk(&self, bar: Ticks, budget: u32, work: &mut [u32]) -> Outcome {
         let needed = &mut work[..self.work_cells()];
-        let outcome = walk(self.e, self.d, &self.higher, budget, needed);
+        let outcome = walk(self.e, self.d, &self.higher, bar, budget, needed);
         needed.fill(0);
         outcome
     }
 
     /// Writes the length and vertices of the path at each task's place; gives the cells written.
-    fn write_witness(&self, places: &[usize], witness: &mut [u16]) -> usize {
+    pub(crate) fn write_witness(&self, places: &[usize], witness: &mut [u16]) -> usize {
         let mut cells = 0;
         for (paths, &place) in self.higher.iter().zip(places) {
             let steps = &paths[place].steps;

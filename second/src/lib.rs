@@ -1,4 +1,4 @@
-//! A second deadline judge, written from document 01 alone.
+//! A second deadline judge, written from document 01 and wish 1 of document 02 alone.
 //!
 //! It is compared with the proved program and shares nothing with it.
 
@@ -9,6 +9,7 @@ pub mod bounds;
 pub mod case;
 pub mod desk;
 pub mod judge;
+pub mod latest;
 pub mod list;
 pub mod paths;
 pub mod refusal;

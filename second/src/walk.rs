@@ -11,6 +11,10 @@ pub enum Outcome {
     Meets {
         /// The number of groups examined.
         count: u32,
+        /// The bar after the walk.
+        bar: Ticks,
+        /// Per higher task, the place of the path of the choice that raised the bar last; empty if none did.
+        latest: Vec<usize>,
     },
     /// The walk reached the witness.
     Misses {
@@ -29,14 +33,23 @@ pub fn stretch_cells(paths: usize, d: Ticks) -> usize {
 }
 
 /// Walks the groups of a vertex's higher tasks, within the budget, in just the needed work cells.
-pub fn walk(e: Ticks, d: Ticks, higher: &[Vec<Path>], budget: u32, work: &mut [u32]) -> Outcome {
+///
+/// A group that finishes no later than the bar is passed over; a single choice that finishes later raises the bar to its finish. With the bar at d from the start, only overloading groups are not passed over; with the bar at 0, it is the latest finish of any single choice examined so far.
+pub fn walk(
+    e: Ticks,
+    d: Ticks,
+    higher: &[Vec<Path>],
+    bar: Ticks,
+    budget: u32,
+    work: &mut [u32],
+) -> Outcome {
     let mut stretches = &mut *work;
     for paths in higher {
         let (stretch, rest) = stretches.split_at_mut(stretch_cells(paths.len(), d));
         fill(stretch, paths, d);
         stretches = rest;
     }
-    Walk::from_top(e, d, higher, work).run(budget)
+    Walk::from_top(e, d, higher, bar, work).run(budget)
 }
 
 /// Fills a stretch for a range: first the range's own row, then the stretches of its two parts.
@@ -109,11 +122,15 @@ struct Walk<'a> {
     work: &'a [u32],
     /// The groups to examine, the next one last.
     waiting: Vec<Group>,
+    /// A group that finishes no later is passed over.
+    bar: Ticks,
+    /// The single choice that raised the bar last.
+    latest: Option<Group>,
 }
 
 impl<'a> Walk<'a> {
     /// A walk that has only the top group to examine yet.
-    fn from_top(e: Ticks, d: Ticks, higher: &[Vec<Path>], work: &'a [u32]) -> Walk<'a> {
+    fn from_top(e: Ticks, d: Ticks, higher: &[Vec<Path>], bar: Ticks, work: &'a [u32]) -> Walk<'a> {
         let mut top = [NOT_USED; HIGHER_TASKS];
         let mut row = 0;
         let mut splits = 0;
@@ -133,6 +150,8 @@ impl<'a> Walk<'a> {
             higher: higher.len(),
             work,
             waiting,
+            bar,
+            latest: None,
         }
     }
 
@@ -144,38 +163,51 @@ impl<'a> Walk<'a> {
                 return Outcome::Unfinished;
             }
             count += 1;
-            if let Some(witness) = self.step(group) {
-                let ranges = &witness[..self.higher];
-                let witness = ranges.iter().map(|range| range.first).collect();
+            self.step(group);
+            if self.bar > self.d {
+                let witness = self.latest_places();
                 return Outcome::Misses { count, witness };
             }
         }
-        Outcome::Meets { count }
+        Outcome::Meets {
+            count,
+            bar: self.bar,
+            latest: self.latest_places(),
+        }
     }
 
-    /// Examines one group: the witness is given back, the children of another overloading one wait.
-    fn step(&mut self, mut group: Group) -> Option<Group> {
-        if !self.overloads(&group) {
-            return None;
+    /// Examines one group: unless it is passed over, a single choice raises the bar, and another group's children wait.
+    fn step(&mut self, mut group: Group) {
+        let finish = self.finish(&group);
+        if finish <= self.bar {
+            return;
         }
         let Some(task) = group.iter().position(|range| range.paths > 1) else {
-            return Some(group);
+            self.bar = finish;
+            self.latest = Some(group);
+            return;
         };
         let (first, rest) = group[task].split(self.d);
         group[task] = rest;
         self.waiting.push(group);
         group[task] = first;
         self.waiting.push(group);
-        None
     }
 
-    /// For every t from 1 to d: do e and the ranges' loads at t exceed t?
-    fn overloads(&self, group: &Group) -> bool {
+    /// The first t from 1 to d at which e and the ranges' loads are at most t; one past d if the group overloads.
+    fn finish(&self, group: &Group) -> Ticks {
         let ranges = &group[..self.higher];
-        (1..=self.d.0).all(|t| {
+        let free = (1..=self.d.0).find(|&t| {
             let cell = t as usize - 1;
             let loads: u32 = ranges.iter().map(|range| self.work[range.row + cell]).sum();
-            self.e.0 + loads > t
-        })
+            self.e.0 + loads <= t
+        });
+        Ticks(free.unwrap_or(self.d.0 + 1))
+    }
+
+    /// Per higher task, the place of the path of the choice that raised the bar last; empty if none did.
+    fn latest_places(&self) -> Vec<usize> {
+        let ranges = self.latest.iter().flat_map(|group| &group[..self.higher]);
+        ranges.map(|range| range.first).collect()
     }
 }

@@ -1,8 +1,9 @@
-//! What the desk's answer says, in words for people.
+//! What the desk's answer says, in words for people, with the worst finish beside each meets and, if asked for, the releases that make it so late.
 
 use crate::bounds::{BUDGET, INPUT_BYTES, PATHS, WITNESS_CELLS, WORK_CELLS};
 use crate::desk;
 use crate::judge::{judge_vertex, Counts, Verdict};
+use crate::latest::{latest_of_vertex, Lateness};
 use crate::refusal::{Refusal, Row};
 use crate::table::{Table, Task, TaskNo, Ticks, Vertex};
 
@@ -14,8 +15,18 @@ const UNREAD: &str = "This may NOT go out: the table can't be read, so nothing w
 
 /// The words for an input: a line for each vertex and what follows from them, or why nothing was judged.
 pub fn words(input: &[u8]) -> String {
+    input_words(input, false)
+}
+
+/// The same words, and below each meets the releases that make it so late.
+pub fn words_with_why(input: &[u8]) -> String {
+    input_words(input, true)
+}
+
+/// The words for an input, with the releases below a meets or without.
+fn input_words(input: &[u8], why: bool) -> String {
     match desk::read(input) {
-        Ok(table) => table_words(&table),
+        Ok(table) => table_words(&table, why),
         Err(refusal) => refusal_words(input, &refusal),
     }
 }
@@ -85,7 +96,7 @@ fn shown_byte(byte: u8) -> String {
 }
 
 /// The words for a table: each vertex, the four counts, and whether it may go out.
-fn table_words(table: &Table) -> String {
+fn table_words(table: &Table, why: bool) -> String {
     let mut work = [0; WORK_CELLS];
     let mut witness = [0; WITNESS_CELLS];
     let mut counts = Counts::default();
@@ -96,50 +107,76 @@ fn table_words(table: &Table) -> String {
         // Every number that the table lists has its vertex.
         let vertex = &table.tasks[usize::from(task.0)].vertices[usize::from(number.0)];
         words += &format!("task {}, vertex {}: ", task.0, number.0);
-        words += &verdict_words(&verdict, task, vertex);
-        if let Verdict::Misses { .. } = verdict {
-            words += &miss_words(table, task, vertex, &witness);
-        }
+        words += &match verdict {
+            Verdict::Meets { count } => {
+                let lateness =
+                    latest_of_vertex(table, task, number, BUDGET, &mut work, &mut witness);
+                let cause = match (why, &lateness) {
+                    (true, Lateness::Meets { .. }) => cause_words(table, task, &witness),
+                    _ => "\n".into(),
+                };
+                meets_line(vertex, count, &lateness) + &cause
+            }
+            Verdict::Misses { count, .. } => {
+                misses_line(task, vertex, count) + &miss_words(table, task, vertex, &witness)
+            }
+            Verdict::Unfinished { budget } => unfinished_line(budget),
+            Verdict::Refused(refusal) => refused(&refusal) + ", so this was not judged\n",
+        };
     }
     words + &counts_words(&counts)
 }
 
-/// What is said of a vertex after its numbers, to the end of the line.
-fn verdict_words(verdict: &Verdict, task: TaskNo, vertex: &Vertex) -> String {
-    let deadline = |count| {
-        let (d, groups) = (ticks(vertex.d.0), number_of(count, "group"));
-        format!("its deadline of {d} ({groups} examined)")
-    };
-    match *verdict {
-        Verdict::Meets { count } => format!("meets {}\n", deadline(count)),
-        Verdict::Misses { count, .. } => {
-            let cause = match task {
-                TaskNo(0) => " with no other task's help",
-                _ => ", shown by these releases",
-            };
-            format!("MISSES {}{cause}:\n", deadline(count))
+/// The line of a vertex that meets, up to where the cause may follow: the groups of its verdict, and its worst finish unless the search for that was cut short.
+fn meets_line(vertex: &Vertex, count: u32, lateness: &Lateness) -> String {
+    let (d, groups) = (ticks(vertex.d.0), number_of(count, "group"));
+    match lateness {
+        Lateness::Meets { finish, .. } => {
+            let (finish, spare) = (finish.0, vertex.d.0 - finish.0);
+            format!("meets its deadline of {d}, at worst after {finish}, {spare} to spare ({groups} examined)")
         }
-        Verdict::Unfinished { budget } => {
-            let groups = number_of(budget, "group");
-            format!("UNFINISHED: the search was cut short after {groups}; this is neither a yes nor a no\n")
-        }
-        Verdict::Refused(refusal) => refused(&refusal) + ", so this was not judged\n",
+        _ => format!("meets its deadline of {d} ({groups} examined; its worst finish wasn't found within {BUDGET} groups)"),
     }
+}
+
+/// What makes a vertex so late, behind its line: the releases in the witness area, if there are higher tasks.
+fn cause_words(table: &Table, task: TaskNo, witness: &[u16]) -> String {
+    match task {
+        TaskNo(0) => ", with nothing above it\n".into(),
+        _ => {
+            let lines = witnessed(table, task, witness)
+                .map(|(number, higher, path)| release_line(number, higher, path));
+            format!(", by these releases:\n{}", lines.collect::<String>())
+        }
+    }
+}
+
+/// The line of a vertex that misses.
+fn misses_line(task: TaskNo, vertex: &Vertex, count: u32) -> String {
+    let (d, groups) = (ticks(vertex.d.0), number_of(count, "group"));
+    let cause = match task {
+        TaskNo(0) => " with no other task's help",
+        _ => ", shown by these releases",
+    };
+    format!("MISSES its deadline of {d} ({groups} examined){cause}:\n")
+}
+
+/// The line of a vertex whose search was cut short.
+fn unfinished_line(budget: u32) -> String {
+    let groups = number_of(budget, "group");
+    format!("UNFINISHED: the search was cut short after {groups}; this is neither a yes nor a no\n")
 }
 
 /// The lines below a miss: the releases in the witness area, and the work that is due by the deadline.
 fn miss_words(table: &Table, task: TaskNo, vertex: &Vertex, witness: &[u16]) -> String {
     let mut words = String::new();
     let mut due = vertex.e;
-    let mut front = witness;
-    for (number, higher) in table.tasks[..usize::from(task.0)].iter().enumerate() {
-        let (path, rest) = front[1..].split_at(usize::from(front[0]));
-        words += &format!("    task {number}: {}\n", releases(higher, path));
+    for (number, higher, path) in witnessed(table, task, witness) {
+        words += &release_line(number, higher, path);
         // The whole path is released before the deadline, so its load there is all of it.
         for &cell in path {
             due = due + higher.vertices[usize::from(cell)].e;
         }
-        front = rest;
     }
     let (due, own, d) = (due.0, vertex.e.0, vertex.d.0);
     let (all, over) = (ticks(due), ticks(due - d));
@@ -147,6 +184,26 @@ fn miss_words(table: &Table, task: TaskNo, vertex: &Vertex, witness: &[u16]) -> 
         + &format!(
             "    {all} of work are due by the deadline, {own} of them its own: {over} too many\n"
         )
+}
+
+/// The paths in the witness area: each higher task's number, the task, and its path.
+fn witnessed<'a>(
+    table: &'a Table,
+    task: TaskNo,
+    witness: &'a [u16],
+) -> impl Iterator<Item = (usize, &'a Task, &'a [u16])> {
+    let mut front = witness;
+    let higher = table.tasks[..usize::from(task.0)].iter().enumerate();
+    higher.map(move |(number, higher)| {
+        let (path, rest) = front[1..].split_at(usize::from(front[0]));
+        front = rest;
+        (number, higher, path)
+    })
+}
+
+/// The line of a higher task's releases.
+fn release_line(number: usize, task: &Task, path: &[u16]) -> String {
+    format!("    task {number}: {}\n", releases(task, path))
 }
 
 /// Each vertex of a path with its tick: the first at 0, the next ones by the separations.

@@ -25,20 +25,6 @@ fn judge_in(
     (verdict, work, witness)
 }
 
-/// A work area whose front cells are zero and whose rest is unchanged.
-fn zeroed(front: usize, cells: usize) -> Vec<u32> {
-    let mut work = work_area(cells);
-    work[..front].fill(0);
-    work
-}
-
-/// A witness area whose front holds these cells and whose rest is unchanged.
-fn written(front: &[u16], cells: usize) -> Vec<u16> {
-    let mut witness = witness_area(cells);
-    witness[..front.len()].copy_from_slice(front);
-    witness
-}
-
 /// The four counts.
 fn counts(meets: u16, misses: u16, unfinished: u16, refused: u16) -> Counts {
     Counts {

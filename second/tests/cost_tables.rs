@@ -4,7 +4,7 @@ mod common;
 
 use common::{answered_lines, judged, texts_of};
 use second::bounds::{BUDGET, MOST_WORK_CELLS, WITNESS_CELLS};
-use second::case::UNMARKED;
+use second::case::{FINISHES, UNMARKED};
 use second::sequence::MOST_BYTES;
 use second::table::{Table, Task, Vertex};
 use second::text;
@@ -127,6 +127,30 @@ fn some_of_each_begin_with_the_bench() {
 }
 
 #[test]
+fn the_same_tables_asked_how_late() {
+    for family in [&["small"][..], &["paper", "1"], &["heavy"], &["few"]] {
+        let asked = generated(&[&["latest"], family].concat());
+        assert!(asked.status.success());
+        assert!(2 * asked.stdout.len() <= MOST_BYTES);
+        let texts = texts_of(UNMARKED, &generated(family).stdout);
+        assert_eq!(texts_of(FINISHES, &asked.stdout), texts);
+    }
+}
+
+#[test]
+fn the_sums_of_the_worst_finishes() {
+    let lines = answered_lines(&generated(&["latest", "few"]).stdout);
+    let lines: Vec<_> = lines.lines().collect();
+    // R1: 2 and 4, and the last misses; in R2 it finishes at 5.
+    assert_eq!(lines[..2], ["1f0201000000000006", "1f030000000000000b"]);
+    assert!(lines.contains(&"1e060001"));
+    // Both calls say the same of a vertex where neither is cut short.
+    let plain = answered_lines(&generated(&["few"]).stdout);
+    let fronts = lines.iter().map(|line| &line[..line.len().min(10)]);
+    assert!(fronts.eq(plain.lines()));
+}
+
+#[test]
 fn another_seed_gives_other_tables() {
     let families =
         ["small", "paper"].map(|family| [generated(&[family]), generated(&[family, "1"])]);
@@ -145,7 +169,15 @@ fn another_seed_gives_other_tables() {
 
 #[test]
 fn wrong_arguments() {
-    for arguments in [&[][..], &["large"], &["small", "one"], &["small", "1", "2"]] {
+    for arguments in [
+        &[][..],
+        &["large"],
+        &["small", "one"],
+        &["small", "1", "2"],
+        &["latest"],
+        &["latest", "large"],
+        &["latest", "small", "1", "2"],
+    ] {
         let found = generated(arguments);
         assert!(!found.status.success() && found.stdout.is_empty());
     }

@@ -1,4 +1,4 @@
-//! The page on writing tables has the bounds and the refusals as the judge has them.
+//! The page on writing tables has the bounds and the refusals as the judge has them, and with README what is said without a worst finish.
 
 mod common;
 
@@ -73,6 +73,16 @@ fn limits_of_a_search() {
     let rows = rows("Too many paths: 9, 10 and unfinished");
     let most: Vec<_> = rows.iter().map(|row| row[1]).collect();
     assert_eq!(most, [PATHS, WORK_CELLS, BUDGET as usize].map(grouped));
+}
+
+#[test]
+fn a_worst_finish_that_is_not_found() {
+    let said = format!("`its worst finish wasn't found within {BUDGET} groups`");
+    let pages = [
+        include_str!("../../docs/TABLES.md"),
+        include_str!("../../README.md"),
+    ];
+    assert!(pages.iter().all(|page| page.contains(&said)), "{said}");
 }
 
 /// What a refusal says behind its number and its line.

@@ -3,7 +3,7 @@
 mod common;
 
 use common::{answered, answered_lines, r1, run, self_edge, sequence_of, task, text, with_length};
-use second::case::{CHECK, DESK, LIST, UNMARKED};
+use second::case::{CHECK, DESK, FINISHES, LIST, UNMARKED};
 
 /// R1's output.
 const R1_OUTPUT: &str = "1000000000000001\n1001000000000001\n1002000100000001\n\
@@ -104,11 +104,15 @@ fn tabled_texts() {
     let texts = [&r1, "", "00\n", &many, &large].map(str::as_bytes);
     let expected = "1f02010000\n1e060001\n1e020001\n1f04000001\n1f05000000\n";
     assert_eq!(answered_lines(&sequence_of(UNMARKED, &texts)), expected);
+    // The worst finishes: 2 and 4 in R1; 1 of each vertex of the first task, and 2 of the last one that isn't refused.
+    let expected =
+        "1f0201000000000006\n1e060001\n1e020001\n1f0400000100000004\n1f0500000000000006\n";
+    assert_eq!(answered_lines(&sequence_of(FINISHES, &texts)), expected);
 }
 
 #[test]
 fn a_mode_that_there_is_not() {
-    for mode in (0..=255).filter(|mode| !b"cldvtuw".contains(mode)) {
+    for mode in (0..=255).filter(|mode| !b"cldvftugwy".contains(mode)) {
         let expected = format!("no such mode: {mode:02x}\n");
         assert_eq!(answered_lines(&sequence_of(mode, &[b"00\n"])), expected);
     }
@@ -121,7 +125,7 @@ fn no_cases() {
 
 #[test]
 fn a_broken_sequence() {
-    for mode in *b"cldvtuw" {
+    for mode in *b"cldvftugwy" {
         let whole = sequence_of(mode, &[b"00\n"]);
         let beginnings = (1..whole.len()).map(|end| whole[..end].to_vec());
         for broken in beginnings.chain([vec![0xff; 4], vec![0xff; 100]]) {

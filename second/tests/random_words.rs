@@ -1,12 +1,14 @@
-//! The words of random tables against the desk's frames, their numbers worked out by document 01's definitions.
+//! The words of random tables against the desk's frames, their numbers worked out by the definitions of document 01 and wish 1.
 
 mod common;
 
-use common::definitions::{count_paths, load, spans};
+use common::definitions::{
+    complete_paths, count_paths, first_latest, load, loads, spans, worst_finish,
+};
 use common::random::{table, Random, Size};
 use common::{text, Task};
 use second::desk;
-use second::words::words;
+use second::words::{words, words_with_why};
 
 /// Tables in which every verdict of the desk but unfinished is frequent.
 const SIZE: Size = Size {
@@ -25,11 +27,15 @@ fn words_say_what_the_frames_say() {
     for _ in 0..1_000 {
         let tasks = table(&mut random, &SIZE);
         let found = words(text(&tasks).as_bytes());
-        assert_eq!(found, expected(&tasks));
+        assert_eq!(found, expected(&tasks, false));
+        let found = words_with_why(text(&tasks).as_bytes());
+        assert_eq!(found, expected(&tasks, true));
         said += &found;
     }
     let often = |part: &str| assert!(said.matches(part).count() > 100, "{part}");
-    often(": meets its");
+    often(", at worst after ");
+    often("examined), with nothing above it");
+    often("examined), by these releases:\n    task 0: vertex 1 ");
     often("examined), shown by");
     often("help:");
     often("REFUSED (9): task 0");
@@ -39,8 +45,8 @@ fn words_say_what_the_frames_say() {
     often("This may go out");
 }
 
-/// The words that the desk's frames for these tasks amount to.
-fn expected(tasks: &[Task]) -> String {
+/// The words that the desk's frames for these tasks amount to, with what makes each meets so late or without.
+fn expected(tasks: &[Task], why: bool) -> String {
     let output = desk::output(text(tasks).as_bytes());
     let frames: Vec<Vec<usize>> = output.lines().map(numbers).collect();
     let mut words = String::new();
@@ -49,7 +55,7 @@ fn expected(tasks: &[Task]) -> String {
         let misses = frame[0] == 0x10 && frame[3] == 1;
         let paths = if misses { frame[1] } else { 0 };
         words += &match frame[0] {
-            0x10 => vertex_words(tasks, frame, &next[..paths]),
+            0x10 => vertex_words(tasks, frame, &next[..paths], why),
             _ => last_words(frame),
         };
         rest = &next[paths..];
@@ -64,25 +70,23 @@ fn numbers(line: &str) -> Vec<usize> {
 }
 
 /// The words for a vertex's frame and, after a miss, the frames of the paths.
-fn vertex_words(tasks: &[Task], frame: &[usize], paths: &[Vec<usize>]) -> String {
+fn vertex_words(tasks: &[Task], frame: &[usize], paths: &[Vec<usize>], why: bool) -> String {
     let (number, vertex) = (frame[1], frame[2]);
     let (e, d) = tasks[number].vertices[vertex];
     let count = frame[4..].iter().fold(0, |n, byte| n * 256 + byte);
     let start = format!("task {number}, vertex {vertex}: ");
-    let deadline = format!(
-        "its deadline of {} ({} examined)",
-        plural(d, "tick"),
-        plural(count as u32, "group")
-    );
+    let (ticks, groups) = (plural(d, "tick"), plural(count as u32, "group"));
+    let deadline = format!("its deadline of {ticks} ({groups} examined)");
     let higher = &tasks[..number];
     match (frame[3], count, number) {
-        (0, ..) => format!("{start}meets {deadline}\n"),
+        (0, ..) => start + &meets_words(higher, (e, d), &groups, why),
         (1, _, 0) => {
             let due = due_words(e, e, d);
             format!("{start}MISSES {deadline} with no other task's help:\n{due}")
         }
         (1, ..) => {
-            let releases: String = paths.iter().map(|path| path_words(higher, path)).collect();
+            let path_words = |frame: &Vec<usize>| path_words(higher, frame[1], &frame[3..]);
+            let releases: String = paths.iter().map(path_words).collect();
             let load = |path: &Vec<usize>| load(&tasks[path[1]], &path[3..], d);
             let due = due_words(e + paths.iter().map(load).sum::<u32>(), e, d);
             format!("{start}MISSES {deadline}, shown by these releases:\n{releases}{due}")
@@ -101,12 +105,44 @@ fn vertex_words(tasks: &[Task], frame: &[usize], paths: &[Vec<usize>]) -> String
     }
 }
 
-/// The line of a path's frame.
-fn path_words(higher: &[Task], frame: &[usize]) -> String {
-    let spans = spans(&higher[frame[1]], &frame[3..]).unwrap();
+/// The words for a vertex that meets, behind its numbers.
+fn meets_words(higher: &[Task], vertex: (u32, u32), groups: &str, why: bool) -> String {
+    let (e, d) = vertex;
+    let worst = worst_finish(e, d, &rows(higher, d)).unwrap();
+    let (ticks, spare) = (plural(d, "tick"), d - worst);
+    let cause = match why {
+        true => cause_words(higher, e, d),
+        false => "\n".into(),
+    };
+    format!("meets its deadline of {ticks}, at worst after {worst}, {spare} to spare ({groups} examined){cause}")
+}
+
+/// What makes a vertex that meets so late, behind its line.
+fn cause_words(higher: &[Task], e: u32, d: u32) -> String {
+    let choice = first_latest(e, d, &rows(higher, d)).unwrap();
+    if choice.is_empty() {
+        return ", with nothing above it\n".into();
+    }
+    let path = |task: usize| complete_paths(&higher[task], d)[choice[task]].clone();
+    let lines = (0..choice.len()).map(|task| path_words(higher, task, &path(task)));
+    format!(", by these releases:\n{}", lines.collect::<String>())
+}
+
+/// The loads at t = 1 to d of each path of each higher task.
+fn rows(higher: &[Task], d: u32) -> Vec<Vec<Vec<u32>>> {
+    let rows = |task| {
+        let paths = complete_paths(task, d).into_iter();
+        paths.map(|path| loads(task, &path, d)).collect()
+    };
+    higher.iter().map(rows).collect()
+}
+
+/// The line of a task's path.
+fn path_words(higher: &[Task], task: usize, path: &[usize]) -> String {
+    let spans = spans(&higher[task], path).unwrap();
     let at = |(vertex, span): (&usize, &u32)| format!("vertex {vertex} at tick {span}");
-    let releases: Vec<_> = frame[3..].iter().zip(&spans).map(at).collect();
-    format!("    task {}: {}\n", frame[1], releases.join(", "))
+    let releases: Vec<_> = path.iter().zip(&spans).map(at).collect();
+    format!("    task {task}: {}\n", releases.join(", "))
 }
 
 /// The line of the work that is due by the deadline.

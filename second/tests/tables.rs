@@ -2,19 +2,34 @@
 
 mod common;
 
-use common::judged;
+use common::{judged, witness_area, work_area};
 use second::judge::Verdict;
-use second::words::words;
+use second::latest::{latest, Lateness};
+use second::table::{TaskNo, Ticks, VertexNo};
+use second::words::{words, words_with_why};
 
 /// The words for an example table.
 fn table_words(table: &str) -> String {
     words(table.as_bytes())
 }
 
+/// The worst finishes that the words say, in order.
+fn worst_finishes(words: &str) -> Vec<u32> {
+    let behind = words.split(", at worst after ").skip(1);
+    behind
+        .map(|rest| rest.split(',').next().unwrap().parse().unwrap())
+        .collect()
+}
+
 #[test]
 fn cradle_meets() {
     let words = table_words(include_str!("../../tables/cradle_meets.table"));
-    assert!(words.contains("task 3, vertex 0: meets its deadline of 11 ticks (5 groups examined)"));
+    let line =
+        "task 3, vertex 0: meets its deadline of 11 ticks, at worst after 10, 1 to spare (5 groups examined)\n";
+    assert!(words.contains(line), "{words}");
+    // The radio: 2 + 2 and 3 + 2, below a scan handed on; the beeper: 1 + 2 + 3. The display: 3 + 3 + 3 + 1, and 8 + 5 + 5 + 1 with a
+    // scan handed on at 0 and 16, an acknowledgement at 8, a packet received at 0 and decoded at 8.
+    assert_eq!(worst_finishes(&words), [1, 2, 4, 5, 6, 6, 10, 19]);
     let last = "\nmeets 8, misses 0, unfinished 0, refused 0\nThis may go out: every job type meets its deadline.\n";
     assert!(words.ends_with(last), "{words}");
 }
@@ -41,6 +56,33 @@ fn unfinished() {
     let verdict = |budget| judged(table, (5, 0), budget, (8_192, 1_407));
     assert_eq!(verdict(124_414), Verdict::Unfinished { budget: 124_414 });
     assert_eq!(verdict(124_415), Verdict::Meets { count: 124_415 });
+}
+
+#[test]
+fn unfinished_by_tick_10() {
+    let table = include_str!("../../tables/unfinished.table");
+    let table = table.replace("0200010009\n00\n", "020001000a\n00\n");
+    let line = "meets its deadline of 10 ticks (1 group examined; its worst finish wasn't found within 100000 groups)";
+    let words = table_words(&table);
+    assert!(
+        words.contains(&format!("task 5, vertex 0: {line}\n")),
+        "{words}"
+    );
+    assert!(include_str!("../../tables/unfinished.md").contains(&format!("`{line}`")));
+    let lateness = |budget| {
+        let (mut work, mut witness) = (work_area(8_192), witness_area(1_407));
+        let (task, vertex) = (TaskNo(5), VertexNo(0));
+        latest(
+            table.as_bytes(),
+            task,
+            vertex,
+            budget,
+            &mut work,
+            &mut witness,
+        )
+    };
+    assert_eq!(lateness(124_414), Lateness::Unfinished { budget: 124_414 });
+    assert_eq!(lateness(124_415).finish(), Ticks(9));
 }
 
 #[test]
@@ -78,6 +120,9 @@ This may NOT go out: not every job type was shown to meet its deadline.
 #[test]
 fn cradle_display_sooner() {
     let words = table_words(include_str!("../../tables/cradle_display_sooner.table"));
+    // The beeper: 1 + 3. The cable: 1 + 3 + 1, 2 + 3 + 1 and 4 + 3 + 1. The display, with 4 from the cable and 1 from the beeper: 6 and 8,
+    // with 2 + 3 from the radio by tick 9; 1, with 3 at once.
+    assert_eq!(worst_finishes(&words), [2, 3, 4, 4, 5, 6, 8, 16, 18, 9]);
     let last = "\nmeets 10, misses 0, unfinished 0, refused 0\nThis may go out: every job type meets its deadline.\n";
     assert!(words.ends_with(last), "{words}");
 }
@@ -85,7 +130,9 @@ fn cradle_display_sooner() {
 #[test]
 fn unfinished_merged() {
     let words = table_words(include_str!("../../tables/unfinished_merged.table"));
-    assert!(words.contains("task 5, vertex 0: meets its deadline of 9 ticks (5 groups examined)"));
+    let line =
+        "task 5, vertex 0: meets its deadline of 9 ticks, at worst after 9, 0 to spare (5 groups examined)\n";
+    assert!(words.contains(line), "{words}");
 }
 
 #[test]
@@ -96,8 +143,14 @@ fn one_job() {
 
 #[test]
 fn branch() {
-    let words = table_words(include_str!("../../tables/branch.table"));
-    assert!(words.contains("task 1, vertex 0: meets its deadline of 10 ticks (3 groups examined)"));
+    let table = include_str!("../../tables/branch.table");
+    let words = table_words(table);
+    let line = "task 1, vertex 0: meets its deadline of 10 ticks, at worst after 9, 1 to spare (3 groups examined)";
+    assert!(words.contains(&format!("{line}\n")), "{words}");
+    // The second of the radio's paths.
+    let releases = ", by these releases:\n    task 0: vertex 1 at tick 0\n";
+    let words = words_with_why(table.as_bytes());
+    assert!(words.contains(&format!("{line}{releases}")), "{words}");
 }
 
 #[test]

@@ -3,8 +3,8 @@
 mod common;
 
 use common::*;
-use second::case::WORDS;
-use second::words::words;
+use second::case::{WHY, WORDS};
+use second::words::{words, words_with_why};
 use std::fs;
 use std::process::Command;
 
@@ -16,17 +16,19 @@ fn table_words(tasks: &[Task]) -> String {
     words(text(tasks).as_bytes())
 }
 
-/// The words for a vertex that meets.
-fn meets(numbers: (u16, u16), d: &str, groups: &str) -> String {
+/// The words for a vertex that meets, with its worst finish and the ticks from there to its deadline.
+fn meets(numbers: (u16, u16), d: &str, worst: (u32, u32), groups: &str) -> String {
     let (task, vertex) = numbers;
-    format!("task {task}, vertex {vertex}: meets its deadline of {d} ({groups} examined)\n")
+    let (worst, spare) = worst;
+    format!("task {task}, vertex {vertex}: meets its deadline of {d}, at worst after {worst}, {spare} to spare ({groups} examined)\n")
 }
 
 #[test]
 fn r1() {
+    // Nothing above task 0: its own 2. Above task 1 there is one release up to tick 5: 2 + 2.
     let expected = "\
-task 0, vertex 0: meets its deadline of 5 ticks (1 group examined)
-task 1, vertex 0: meets its deadline of 7 ticks (1 group examined)
+task 0, vertex 0: meets its deadline of 5 ticks, at worst after 2, 3 to spare (1 group examined)
+task 1, vertex 0: meets its deadline of 7 ticks, at worst after 4, 3 to spare (1 group examined)
 task 2, vertex 0: MISSES its deadline of 6 ticks (1 group examined), shown by these releases:
     task 0: vertex 0 at tick 0, vertex 0 at tick 5
     task 1: vertex 0 at tick 0
@@ -39,10 +41,11 @@ This may NOT go out: a job type misses its deadline.
 
 #[test]
 fn r2_may_go_out() {
+    // The last one at tick 5: 1 + 2 + 2.
     let expected = [
-        &meets((0, 0), "5 ticks", "1 group")[..],
-        &meets((1, 0), "7 ticks", "1 group"),
-        &meets((2, 0), "6 ticks", "1 group"),
+        &meets((0, 0), "5 ticks", (2, 3), "1 group")[..],
+        &meets((1, 0), "7 ticks", (4, 3), "1 group"),
+        &meets((2, 0), "6 ticks", (5, 1), "1 group"),
         "meets 3, misses 0, unfinished 0, refused 0\n",
         "This may go out: every job type meets its deadline.\n",
     ];
@@ -73,14 +76,68 @@ task 2, vertex 0: MISSES its deadline of 1 tick (3 groups examined), shown by th
 meets 4, misses 1, unfinished 0, refused 0
 This may NOT go out: a job type misses its deadline.
 ";
+    // Below (0) task 1 is done at 1 + 3, below (1,2) at 1 + 1, below (2) at 1 + 4.
     let expected = [
-        &meets((0, 0), "10 ticks", "1 group")[..],
-        &meets((0, 1), "2 ticks", "1 group"),
-        &meets((0, 2), "10 ticks", "1 group"),
-        &meets((1, 0), "5 ticks", "5 groups"),
+        &meets((0, 0), "10 ticks", (3, 7), "1 group")[..],
+        &meets((0, 1), "2 ticks", (1, 1), "1 group"),
+        &meets((0, 2), "10 ticks", (4, 6), "1 group"),
+        &meets((1, 0), "5 ticks", (5, 0), "5 groups"),
         last,
     ];
     assert_eq!(table_words(&tasks), expected.concat());
+}
+
+#[test]
+fn the_worst_is_that_of_a_choice() {
+    let mut tasks = r7();
+    tasks[1] = task(&[(1, 10)], &[]);
+    // All paths together have 4 and from tick 3 on 5: free at 1 + 5. But each by itself is free earlier, as above.
+    let expected = [
+        &meets((1, 0), "10 ticks", (5, 5), "1 group")[..],
+        "meets 4, misses 0, unfinished 0, refused 0\n",
+        "This may go out: every job type meets its deadline.\n",
+    ];
+    let found = table_words(&tasks);
+    assert!(found.ends_with(&expected.concat()), "{found}");
+}
+
+#[test]
+fn one_tick_of_one_tick() {
+    let expected = [
+        &meets((0, 0), "1 tick", (1, 0), "1 group")[..],
+        "meets 1, misses 0, unfinished 0, refused 0\n",
+        "This may go out: every job type meets its deadline.\n",
+    ];
+    assert_eq!(table_words(&[task(&[(1, 1)], &[])]), expected.concat());
+}
+
+#[test]
+fn a_meets_whose_worst_finish_was_not_found() {
+    let tasks_of = |kinds| {
+        let mut tasks = vec![task(&vec![(1, 9); kinds], &[]); 4];
+        tasks.push(task(&[(3, 9), (1, 6), (4, 9)], &[(1, 2, 6)]));
+        tasks.push(task(&[(1, 10)], &[]));
+        tasks
+    };
+    // The four tasks always add 4, so (0) finishes at 1 + 4 + 3, (1,2) at 1 + 4 + 1 and (2) at 1 + 4 + 4. All paths together, and
+    // also (0) and (1,2), have 5 from tick 7 on and are free at tick 10: one group for the verdict. That is later than each choice,
+    // so the search for the worst finish sees all 2 x 3 x 12^4 - 1 = 124,415 groups; with eleven kinds, 2 x 3 x 11^4 - 1 = 87,845.
+    let expected = "
+task 5, vertex 0: meets its deadline of 10 ticks (1 group examined; its worst finish wasn't found within 100000 groups)
+meets 52, misses 0, unfinished 0, refused 0
+This may go out: every job type meets its deadline.
+";
+    let found = table_words(&tasks_of(12));
+    assert!(found.ends_with(expected), "{found}");
+    let found = words_with_why(text(&tasks_of(12)).as_bytes());
+    assert!(found.ends_with(expected), "{found}");
+    let expected = [
+        &meets((5, 0), "10 ticks", (9, 1), "1 group")[..],
+        "meets 48, misses 0, unfinished 0, refused 0\n",
+        "This may go out: every job type meets its deadline.\n",
+    ];
+    let found = table_words(&tasks_of(11));
+    assert!(found.ends_with(&expected.concat()), "{found}");
 }
 
 #[test]
@@ -243,6 +300,9 @@ fn the_program_writes_an_empty_line_after_each_text() {
     let found = answered_lines(&sequence_of(WORDS, &texts));
     let expected: String = texts.map(|text| words(text) + "\n").concat();
     assert_eq!(found, expected);
+    let found = answered_lines(&sequence_of(WHY, &texts));
+    let expected: String = texts.map(|text| words_with_why(text) + "\n").concat();
+    assert_eq!(found, expected);
 }
 
 #[test]
@@ -278,7 +338,9 @@ fn the_texts_that_the_words_are_checked_with() {
         r"\xff",
         "f...",
         "0g",
-        ": meets its",
+        ", at worst after ",
+        ", 0 to spare (",
+        "; its worst finish wasn't found within 100000 groups)",
         "MISSES its deadline of 1 tick (",
         "examined), shown by",
         "help:",

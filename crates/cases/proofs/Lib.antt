@@ -1,2 +1,3 @@
+pub mod Asking
 pub mod Horizons
 pub mod Stretches

@@ -5,10 +5,13 @@
 //   c  the text check (check.rt)              v  one vertex, on marked areas (vertex.rt)
 //   l  the paths of its tasks (list.rt)       t  the whole table, on a marked area (whole.rt)
 //   d  the desk's output (desk.rt)            u  the whole table, unmarked, for docs/COST.md (whole.rt)
+//   f  one vertex and its worst finish, on marked areas (vertex.rt)
+//   g  every vertex of a table with its worst finish, unmarked, for docs/COST.md (finishes.rt)
 // Any other mode is a line that says so.
 mod areas;
 mod check;
 mod desk;
+mod finishes;
 mod list;
 mod print;
 mod task;
@@ -51,12 +54,20 @@ fn answer(header: &[u8], text: &[u8], work: &mut [u32])
         vertex::print(header, text, work);
         return;
     }
+    if mode == b'f' {
+        vertex::print(header, text, work);
+        return;
+    }
     if mode == b't' {
         whole::print_marked(header, text, work);
         return;
     }
     if mode == b'u' {
         whole::print(text, work);
+        return;
+    }
+    if mode == b'g' {
+        finishes::print(text, work);
         return;
     }
     say_unknown(mode);

@@ -1,5 +1,5 @@
 // One vertex, judged on areas of the header's cells: a line with the verdict's number (1 byte), its count, budget or refusal number (4), its cells or place
-// (4), then what is in the two areas, as areas.rt has it.
+// (4), then what is in the two areas, as areas.rt has it. In mode f the worst finish (4) stands before the areas, and a meets has its cells too.
 use crate::areas::least;
 use crate::areas::mark_witness;
 use crate::areas::mark_work;
@@ -7,7 +7,9 @@ use crate::areas::print_witness;
 use crate::areas::print_work;
 use crate::areas::witness_room;
 use crate::print::end_line;
+use judge::Lateness;
 use judge::judge;
+use judge::latest;
 use kinds::TaskNumber;
 use kinds::Verdict;
 use kinds::VertexNumber;
@@ -16,10 +18,40 @@ ghost use mathlib.Core.Path.{_≡_};
 ghost use lib.ListN.{length};
 ghost use Rattle.sequences.specs.Sequence.{headerBytes};
 
-fn print_verdict(verdict: Verdict) {
+fn print_numbers(verdict: Verdict, place: u32) {
     io::print_hex(1, kinds::verdict_number(verdict) as u64, 2);
     io::print_hex(1, kinds::verdict_value(verdict) as u64, 8);
-    io::print_hex(1, kinds::verdict_place(verdict) as u64, 8);
+    io::print_hex(1, place as u64, 8);
+}
+
+// A miss's place is its cells, and a refusal writes none.
+fn place_of(told: Lateness) -> u32 {
+    if told.cells != 0 {
+        return told.cells;
+    }
+    let verdict = told.verdict;
+    kinds::verdict_place(verdict)
+}
+
+fn print_lateness(told: Lateness) {
+    let verdict = told.verdict;
+    print_numbers(verdict, place_of(told));
+    io::print_hex(1, told.finish as u64, 8);
+}
+
+// By the header's mode.
+fn print_answer(header: &[u8], text: &[u8], work: &mut [u32], witness: &mut [u16])
+    requires { ⌜ length (now header) ≡ headerBytes ⌝ }
+{
+    let task = TaskNumber(header[5]);
+    let vertex = VertexNumber(header[6]);
+    let budget = number_at(header, 7) as u32;
+    if header[0] == b'f' {
+        print_lateness(latest(text, task, vertex, budget, work, witness));
+        return;
+    }
+    let verdict = judge(text, task, vertex, budget, work, witness);
+    print_numbers(verdict, kinds::verdict_place(verdict));
 }
 
 fn judge_in(header: &[u8], text: &[u8], work: &mut [u32], witness: &mut [u16])
@@ -27,10 +59,7 @@ fn judge_in(header: &[u8], text: &[u8], work: &mut [u32], witness: &mut [u16])
 {
     mark_work(work);
     mark_witness(witness);
-    let task = TaskNumber(header[5]);
-    let vertex = VertexNumber(header[6]);
-    let budget = number_at(header, 7) as u32;
-    print_verdict(judge(text, task, vertex, budget, work, witness));
+    print_answer(header, text, work, witness);
     print_work(work);
     print_witness(witness);
     end_line();

@@ -18,7 +18,8 @@ ghost use Prim.Native.Nat.{_≤_};
 ghost use lib.ListN.{length};
 ghost use Rattle.sequences.specs.Sequence.{headerBytes};
 
-fn print_counts(counts: Counts, behind: usize)
+// The frame without so many of its line's last bytes: without its line feed where more of the line follows.
+pub(crate) fn print_counts(counts: Counts, behind: usize)
     requires { ⌜ behind ≤ 1 ⌝ }
 {
     let mut line = [0u8; COUNTS_LINE];
@@ -34,7 +35,7 @@ fn print_counts(counts: Counts, behind: usize)
     io::write_all(1, &line[..end]);
 }
 
-fn print_refusal(at: RefusedAt, behind: usize)
+pub(crate) fn print_refusal(at: RefusedAt, behind: usize)
     requires { ⌜ behind ≤ 1 ⌝ }
 {
     let mut line = [0u8; REFUSAL_LINE];
@@ -43,7 +44,6 @@ fn print_refusal(at: RefusedAt, behind: usize)
     io::write_all(1, &line[..end]);
 }
 
-// The frame without so many of its line's last bytes: without its line feed where more of the line follows.
 fn print_verdict(verdict: TableVerdict, behind: usize)
     requires { ⌜ behind ≤ 1 ⌝ }
 {

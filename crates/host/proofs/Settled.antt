@@ -11,17 +11,35 @@ use Rattle.meaning.proofs.Counts.{counts-all, vertices-few}
 use Rattle.kinds.specs.declared.Verdict.{Verdict}
 use Rattle.kinds.specs.Numbers.{verdictNumbers}
 use Rattle.counts.specs.Counts.{totalOf}
-use Rattle.judge.proofs.Demands.{settled}
-use Rattle.host.specs.Told.{countsNumber, tableNumber}
-use Rattle.host.specs.Settled.{VertexToldSettled, TableToldSettled, TakenApart, TableNumberUnpacked}
+use Rattle.judge.specs.declared.Lateness.{Lateness}
+use Rattle.judge.proofs.Demands.{settled, settled-latest}
+use Rattle.host.specs.Told.{latestPlace, countsNumber, tableNumber}
+use Rattle.host.specs.Settled.{VertexToldSettled, LatestToldSettled, TableToldSettled, TakenApart, TableNumberUnpacked}
+
+same-number : {r s : Verdict} (j : ℕ) → r ≡ s → getD (verdictNumbers r) j 0 ≡ getD (verdictNumbers s) j 0
+same-number j e = ap (λ (r : Verdict). getD (verdictNumbers r) j 0) e
 
 pub vertex-settled : VertexToldSettled
 vertex-settled text i v b work wit n value place m value₂ place₂ work₁ wit₁ work₂ wit₂ p q =
-    let one = settled text i v b work wit (p .verdict) (q .verdict) work₁ wit₁ work₂ wit₂ (p .judged) (q .judged) in
-    let same : (j : ℕ) → getD (verdictNumbers (p .verdict)) j 0 ≡ getD (verdictNumbers (q .verdict)) j 0 =
-    λ j. ap (λ (r : Verdict). getD (verdictNumbers r) j 0) (one .0)
-    in
-    (p .number-is ∙ same 0 ∙ sym (q .number-is), p .value-is ∙ same 1 ∙ sym (q .value-is), p .place-is ∙ same 2 ∙ sym (q .place-is), one .1, one .2)
+    let one = settled text i v b work wit (p .verdict) (q .verdict) work₁ wit₁ work₂ wit₂ (p .judged) (q .judged) in (
+      p .number-is ∙ same-number 0 (one .0) ∙ sym (q .number-is),
+      p .value-is ∙ same-number 1 (one .0) ∙ sym (q .value-is),
+      p .place-is ∙ same-number 2 (one .0) ∙ sym (q .place-is),
+      one .1,
+      one .2,
+    )
+
+pub latest-settled : LatestToldSettled
+latest-settled text i v b work wit n value place finish m value₂ place₂ finish₂ work₁ wit₁ work₂ wit₂ p q =
+    let one = settled-latest text i v b work wit (p .lateness) (q .lateness) work₁ wit₁ work₂ wit₂ (p .judged) (q .judged) in
+    let verdict = ap (λ (r : Lateness). r .verdict) (one .0) in (
+      p .number-is ∙ same-number 0 verdict ∙ sym (q .number-is),
+      p .value-is ∙ same-number 1 verdict ∙ sym (q .value-is),
+      p .place-is ∙ ap latestPlace (one .0) ∙ sym (q .place-is),
+      p .finish-is ∙ ap (λ (r : Lateness). r .finish) (one .0) ∙ sym (q .finish-is),
+      one .1,
+      one .2,
+    )
 
 pub table-settled : TableToldSettled
 table-settled text b work r s work₁ work₂ p q = (p .number ∙ sym (q .number), p .cells ∙ sym (q .cells))

@@ -1,5 +1,5 @@
 -- A task or vertex number above 255 gets the answer that 255 gets: no readable table has so many tasks, and no task so many vertices.
-use mathlib.Core.Path.{_≡_, refl, sym, ap, subst, _∙_}
+use mathlib.Core.Path.{_≡_, refl, sym, ap, _∙_}
 use Prim.Native.Nat.{ℕ, _<_, min}
 use native.Mathlib.Omega.{arith}
 use native.Mathlib.Decide.{decLt}
@@ -8,59 +8,69 @@ use lib.ListN.{length}
 use Rattle.meaning.specs.Table.{Table, noTask, taskAt}
 use Rattle.meaning.specs.Text.{Reading, readable, unreadable, read, tasksOf}
 use Rattle.meaning.specs.Sound.{SoundTable}
-use Rattle.meaning.specs.Verdict.{Verdict, refused, numbers}
+use Rattle.meaning.specs.Verdict.{Verdict, refused, numbers, cellsOf, shownPaths, beside, Asked, latest, worstAt, latestPaths, meetsPaths}
 use Rattle.meaning.specs.Areas.{workNeed, workAfter, witnessAfter}
 use Rattle.meaning.specs.Judge.{judged, onReading}
 use Rattle.meaning.proofs.Lists.{mem-getD}
 use Rattle.meaning.proofs.Demands.{readable-sound}
 use Rattle.kinds.specs.declared.Verdict as Code
-use Rattle.judge.specs.Judged.{Judged}
+use Rattle.judge.specs.declared.Lateness.{Lateness}
+use Rattle.judge.specs.Judged.{JudgedBy, LatestJudged}
 use Rattle.judge.proofs.Sheet.{no-task, no-vertex}
 
--- the same verdict, and the same work cells after it
-record Alike (x : Verdict) (n : ℕ) (y : Verdict) (m : ℕ) : Type 0 where
-  verdict : x ≡ y
-  cells : (work : List ℕ) → workAfter x n work ≡ workAfter y m work
+-- whatever a call gives by its verdict and the two numbers, and of a refusal by no number
+module _ (asked : Asked) (i v b lw lx : ℕ) {X : Type 0} (F : Verdict → ℕ → ℕ → X) (blind : (k n j w : ℕ) → F (refused k n) j w ≡ F (refused k n) i v) where
+  abbrev At : Reading → ℕ → ℕ → X
+  At m j w = F (onReading m (λ (ts : Table). judged asked ts j w b lw lx)) j w
 
-both-refused : {x y : Verdict} (n m : ℕ) → x ≡ refused 8 0 → y ≡ refused 8 0 → Alike x n y m
-both-refused n m p q =
-    record {
-      verdict = p ∙ sym q;
-      cells = λ work. ap (λ (z : Verdict). workAfter z n work) p ∙ sym (ap (λ (z : Verdict). workAfter z m work) q);
-    }
+  both-refused : {x y : Verdict} (j w : ℕ) → x ≡ refused 8 0 → y ≡ refused 8 0 → F x j w ≡ F y i v
+  both-refused j w p q = ap (λ (z : Verdict). F z j w) p ∙ blind 8 0 j w ∙ sym (ap (λ (z : Verdict). F z i v) q)
 
-module _ (i v b lw lx : ℕ) where
-  abbrev J : Reading → ℕ → ℕ → Verdict
-  J m j w = onReading m (λ (ts : Table). judged ts j w b lw lx)
-
-  abbrev As : Reading → ℕ → ℕ → Type 0
-  As m j w = Alike (J m j w) (workNeed (tasksOf m) j w) (J m i v) (workNeed (tasksOf m) i v)
-
-  of-task : (ts : Table) → SoundTable ts → i < length ts → As (readable ts) i (min v 255)
+  of-task : (ts : Table) → SoundTable ts → i < length ts → At (readable ts) i (min v 255) ≡ At (readable ts) i v
   of-task ts s h =
       let few = s .eachTask (taskAt ts i) (mem-getD noTask ts i h) .vertexCount in
       elim (decLt v (length (taskAt ts i .vertices))) [
-        | yes l ↦ let e : min v 255 ≡ v = omega (arith, few) in subst (As (readable ts) i) (sym e) (record { verdict = refl; cells = λ work. refl })
-        | no l ↦ both-refused _ _ (no-vertex ts i (min v 255) b lw lx (omega (arith, few))) (no-vertex ts i v b lw lx (omega arith))
+        | yes l ↦ let e : min v 255 ≡ v = omega (arith, few) in ap (At (readable ts) i) e
+        | no l ↦
+            both-refused i (min v 255) (no-vertex asked ts i (min v 255) b lw lx (omega (arith, few))) (no-vertex asked ts i v b lw lx (omega arith))
       ]
 
-  of-table : (ts : Table) → SoundTable ts → As (readable ts) (min i 255) (min v 255)
+  of-table : (ts : Table) → SoundTable ts → At (readable ts) (min i 255) (min v 255) ≡ At (readable ts) i v
   of-table ts s =
       elim (decLt i (length ts)) [
-        | yes h ↦ let e : min i 255 ≡ i = omega (arith, s .taskCount) in subst (λ (j : ℕ). As (readable ts) j (min v 255)) (sym e) (of-task ts s h)
-        | no h ↦ both-refused _ _ (no-task ts (min i 255) (min v 255) b lw lx (omega (arith, s .taskCount))) (no-task ts i v b lw lx (omega arith))
+        | yes h ↦ let e : min i 255 ≡ i = omega (arith, s .taskCount) in ap (λ (j : ℕ). At (readable ts) j (min v 255)) e ∙ of-task ts s h
+        | no h ↦
+            both-refused (min i 255) (min v 255) (no-task asked ts (min i 255) (min v 255) b lw lx (omega (arith, s .taskCount)))
+            (no-task asked ts i v b lw lx (omega arith))
       ]
 
-  of-text : (text : List ℕ) (m : Reading) → read text ≡ m → As m (min i 255) (min v 255)
-  of-text text (readable ts) e = of-table ts (readable-sound text ts e)
-  of-text text (unreadable k n) e = record { verdict = refl; cells = λ work. refl }
+  of-reading : (text : List ℕ) (m : Reading) → read text ≡ m → At m (min i 255) (min v 255) ≡ At m i v
+  of-reading text (readable ts) e = of-table ts (readable-sound text ts e)
+  of-reading text (unreadable k n) e = blind k n (min i 255) (min v 255)
 
-pub wide-judged : (text : List ℕ) (i v b : ℕ) {work wit : List ℕ} {j w : ℕ} {r : Code.Verdict} {work′ wit′ : List ℕ} → j ≡ min i 255 → w ≡ min v 255
-    → Judged text j w b work wit r work′ wit′ → Judged text i v b work wit r work′ wit′
-wide-judged text i v b {work} {wit} {j} {w} p q t =
-    let narrowed : As i v b (length work) (length wit) (read text) j w = rw (p, q) (of-text i v b (length work) (length wit) text (read text) refl) in
+  of-text : (text : List ℕ) {j w : ℕ} → j ≡ min i 255 → w ≡ min v 255 → At (read text) j w ≡ At (read text) i v
+  of-text text p q = rw (p, q) (of-reading text (read text) refl)
+
+pub wide-judged : (asked : Asked) (text : List ℕ) (i v b : ℕ) {work wit : List ℕ} {j w : ℕ} {r : Code.Verdict} {work′ wit′ : List ℕ} → j ≡ min i 255
+    → w ≡ min v 255 → JudgedBy asked text j w b work wit r work′ wit′ → JudgedBy asked text i v b work wit r work′ wit′
+wide-judged asked text i v b {work} {wit} {j} {w} p q t =
+    let ts = tasksOf (read text) in
+    let lw = length work in
+    let lx = length wit in
     record {
-      verdict = t .verdict ∙ ap numbers (narrowed .verdict);
-      cells = t .cells ∙ narrowed .cells work;
-      paths = t .paths ∙ ap (λ (x : Verdict). witnessAfter x wit) (narrowed .verdict);
+      verdict = t .verdict ∙ of-text asked i v b lw lx (λ x m n. numbers x) (λ k n m o. refl) text p q;
+      cells = t .cells ∙ of-text asked i v b lw lx (λ x m n. workAfter x (workNeed ts m n) work) (λ k n m o. refl) text p q;
+      paths = t .paths ∙ of-text asked i v b lw lx (λ x m n. witnessAfter (meetsPaths asked ts m n) x wit) (λ k n m o. refl) text p q;
+    }
+
+pub wide-latest : (text : List ℕ) (i v b : ℕ) {work wit : List ℕ} {j w : ℕ} {r : Lateness} {work′ wit′ : List ℕ} → j ≡ min i 255 → w ≡ min v 255
+    → LatestJudged text j w b work wit r work′ wit′ → LatestJudged text i v b work wit r work′ wit′
+wide-latest text i v b {work} {wit} {j} {w} p q t =
+    let ts = tasksOf (read text) in
+    let lw = length work in
+    let lx = length wit in
+    record {
+      judged = wide-judged latest text i v b p q (t .judged);
+      finish = t .finish ∙ of-text latest i v b lw lx (λ x m n. beside x (worstAt ts m n)) (λ k n m o. refl) text p q;
+      cells = t .cells ∙ of-text latest i v b lw lx (λ x m n. length (cellsOf (shownPaths (latestPaths ts m n) x))) (λ k n m o. refl) text p q;
     }

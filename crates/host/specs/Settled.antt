@@ -5,13 +5,19 @@ use mathlib.Core.List.{List}
 use lib.ListN.{length}
 use Rattle.meaning.specs.Text.{read}
 use Rattle.meaning.specs.Whole.{TableAnswer, counted, uncounted, tableAnswer}
-use Rattle.host.specs.Told.{VertexTold, TableTold}
+use Rattle.host.specs.Told.{VertexTold, LatestTold, TableTold}
 
 -- Two results of a vertex's call coincide, in the three numbers and in every cell of both areas.
 abbrev pub VertexToldSettled : Type 0
 VertexToldSettled = (text : List ℕ) (i v b : ℕ) (work wit : List ℕ) (n value place m value₂ place₂ : ℕ) (work₁ wit₁ work₂ wit₂ : List ℕ)
     → VertexTold text i v b work wit n value place work₁ wit₁ → VertexTold text i v b work wit m value₂ place₂ work₂ wit₂
     → (n ≡ m) × (value ≡ value₂) × (place ≡ place₂) × (work₁ ≡ work₂) × (wit₁ ≡ wit₂)
+
+-- And where the latest finish is asked for, in the four numbers.
+abbrev pub LatestToldSettled : Type 0
+LatestToldSettled = (text : List ℕ) (i v b : ℕ) (work wit : List ℕ) (n value place finish m value₂ place₂ finish₂ : ℕ) (work₁ wit₁ work₂ wit₂ : List ℕ)
+    → LatestTold text i v b work wit n value place finish work₁ wit₁ → LatestTold text i v b work wit m value₂ place₂ finish₂ work₂ wit₂
+    → (n ≡ m) × (value ≡ value₂) × (place ≡ place₂) × (finish ≡ finish₂) × (work₁ ≡ work₂) × (wit₁ ≡ wit₂)
 
 -- Two results of a whole table's call coincide, in the number and in every work cell.
 abbrev pub TableToldSettled : Type 0

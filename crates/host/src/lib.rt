@@ -1,14 +1,16 @@
 // "The customer desk's C host calls the text check directly": `text_check` is the reader's. Here it has the project's name too, beside the judging calls
 // that a C host may want, over numbers and slices. A slice comes from C as a pointer and a length; an empty one may have a null pointer.
 //
-// Names that a C program sees start with the project's. A vertex's value and place come back behind pointers, C's way to return more than one number: a
-// count may take 32 bits, and the place beside it has no width of its own.
+// Names that a C program sees start with the project's. A vertex's value, place and finish come back behind pointers, C's way to return more than one
+// number: a count may take 32 bits, and the place beside it has no width of its own.
 use counts::Counts;
 use judge::TableVerdict;
 use judge::desk_output;
 use judge::judge;
 use judge::judge_table;
+use judge::latest;
 use kinds::TaskNumber;
+use kinds::Verdict;
 use kinds::VertexNumber;
 use kinds::refusal_number;
 use kinds::verdict_number;
@@ -22,7 +24,7 @@ ghost use Rattle.meaning.specs.Text.{read, packed};
 ghost use Rattle.meaning.specs.Areas.{Wrote};
 ghost use Rattle.judge.specs.Desk.{outputInto};
 ghost use Rattle.counts.specs.Counts.{meantCounts};
-ghost use Rattle.host.specs.Told.{VertexTold, countsNumber, TableTold};
+ghost use Rattle.host.specs.Told.{VertexTold, placeBeside, LatestTold, countsNumber, TableTold};
 
 // The text check, by the project's name.
 #[no_mangle]
@@ -68,6 +70,49 @@ pub extern "C" fn tectavirio_judge(
     *value = verdict_value(verdict);
     *place = verdict_place(verdict);
     verdict_number(verdict)
+}
+
+// The cells that a meets wrote, else the verdict's own place.
+fn place_beside(verdict: Verdict, cells: u32) -> u32
+    ensures { λ r. ⌜ r ≡ placeBeside verdict cells ⌝ }
+{
+    match verdict {
+        Verdict::Meets(_) => cells,
+        Verdict::Misses(_, written) => written,
+        Verdict::Unfinished(_) => 0,
+        Verdict::Refused(at) => at.place,
+    }
+}
+
+// One vertex, and how late its latest is: as the call above, but a meets has the cells that it wrote as its place, and the finish is its worst finish; 0
+// beside any other verdict.
+#[no_mangle]
+pub extern "C" fn tectavirio_latest(
+    text: &[u8],
+    task: u32,
+    vertex: u32,
+    budget: u32,
+    work: &mut [u32],
+    witness: &mut [u16],
+    value: &mut u32,
+    place: &mut u32,
+    finish: &mut u32,
+) -> u8
+    ensures { λ r. ⌜ LatestTold (now (text .entry)) task vertex budget (now (work .entry)) (now (witness .entry)) r (now (value .exit)) (now (place .exit)) (now (finish .exit)) (now (work .exit)) (now (witness .exit)) ⌝ }
+{
+    let lateness = latest(
+        text,
+        TaskNumber(narrow(task)),
+        VertexNumber(narrow(vertex)),
+        budget,
+        work,
+        witness,
+    );
+    let said = lateness.verdict;
+    *value = verdict_value(said);
+    *place = place_beside(said, lateness.cells);
+    *finish = lateness.finish;
+    verdict_number(said)
 }
 
 // Each count in a byte, those that meet highest.

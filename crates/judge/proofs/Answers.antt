@@ -5,42 +5,59 @@ use mathlib.Core.List.{List}
 use lib.ListN.{length}
 use Rattle.meaning.specs.Table as Meant
 use Rattle.meaning.specs.Text.{Reading, read, tasksOf}
+use Rattle.meaning.specs.Verdict.{Asked, plain, latest, meetsPaths}
 use Rattle.meaning.specs.Areas.{workNeed}
 use Rattle.meaning.specs.Judge.{judged, onReading}
 use Rattle.meaning.specs.Whole.{counted, tableAnswer, tableWorkAfter}
 use Rattle.kinds.specs.declared.RefusedAt.{RefusedAt}
-use Rattle.kinds.specs.declared.Verdict.{Verdict}
 use Rattle.kinds.specs.declared.Verdict.the-variants.{Refused}
 use Rattle.table.specs.declared.Table.{Table}
 use Rattle.table.specs.Inner.{tableOf, Held}
 use Rattle.reader.proofs.Result.{TableRead, LineRefused}
 use Rattle.counts.specs.declared.Counts.{Counts}
+use Rattle.judge.specs.declared.Lateness.{Lateness}
 use Rattle.judge.specs.declared.TableVerdict.{TableVerdict}
 use Rattle.judge.specs.declared.TableVerdict.the-variants as Whole
-use Rattle.judge.specs.Judged.{Judged}
-use Rattle.judge.specs.Inner.{Answered, TableCounted}
+use Rattle.judge.specs.Judged.{Judged, LatestJudged}
+use Rattle.judge.specs.Inner.{lastTick, AnsweredBy, VertexJudged, TextJudged, TableCounted}
 use Rattle.judge.specs.Whole.{answerOf, TableJudged}
 
 pub read-held : {text : List ℕ} {t : Table} → TableRead text t → Held t
 read-held r = record { whole = r .is; sound = r .sound }
 
-module _ (text : List ℕ) (i v b : ℕ) (work wit : List ℕ) where
-  abbrev For : Reading → Verdict → List ℕ → List ℕ → Type 0
-  For m r work′ wit′ = Answered (onReading m (λ (ts : Meant.Table). judged ts i v b (length work) (length wit)))
-      (workNeed (tasksOf m) i v) work wit r work′ wit′
+-- a refusal is alone
+abbrev pub refusing : RefusedAt → Lateness
+refusing at = record { verdict = Refused at; finish = 0; cells = 0 }
 
-  judged-for : (r : Verdict) (work′ wit′ : List ℕ) → For (read text) r work′ wit′ → Judged text i v b work wit r work′ wit′
-  judged-for r work′ wit′ x = record { verdict = x .verdict; cells = x .cells; paths = x .paths }
+module _ (asked : Asked) (text : List ℕ) (i v b : ℕ) (work wit : List ℕ) where
+  abbrev For : Reading → Lateness → List ℕ → List ℕ → Type 0
+  For m r work′ wit′ =
+      AnsweredBy (onReading m (λ (ts : Meant.Table). judged asked ts i v b (length work) (length wit))) (meetsPaths asked (tasksOf m) i v)
+      (lastTick asked (tasksOf m) i v) (workNeed (tasksOf m) i v) work wit r work′ wit′
 
-  pub text-refuses : (at : RefusedAt) → LineRefused text at → Judged text i v b work wit (Refused at) work wit
-  text-refuses at l =
-      judged-for (Refused at) work wit
-      (subst (λ m. For m (Refused at) work wit) (sym (l .means)) (record { verdict = refl; cells = refl; paths = refl }))
+  pub text-refuses : (at : RefusedAt) → LineRefused text at → {r : Lateness} → r ≡ refusing at → TextJudged asked text i v b work wit r work wit
+  text-refuses at l {r} q =
+      subst (λ (y : Lateness). TextJudged asked text i v b work wit y work wit) (sym q)
+      (subst (λ m. For m (refusing at) work wit) (sym (l .means))
+      (record { answered = record { verdict = refl; cells = refl; paths = refl }; finish = refl; written = refl }))
 
-  pub table-answers : (t : Table) (r : Verdict) (work′ wit′ : List ℕ) → TableRead text t
-      → Answered (judged (tableOf t) i v b (length work) (length wit)) (workNeed (tableOf t) i v) work wit r work′ wit′
-      → Judged text i v b work wit r work′ wit′
-  table-answers t r work′ wit′ q x = judged-for r work′ wit′ (subst (λ m. For m r work′ wit′) (sym (q .means)) x)
+  pub table-answers : (t : Table) (r : Lateness) (work′ wit′ : List ℕ) → TableRead text t
+      → VertexJudged asked (tableOf t) i v b work wit r work′ wit′ → TextJudged asked text i v b work wit r work′ wit′
+  table-answers t r work′ wit′ q x = subst (λ m. For m r work′ wit′) (sym (q .means)) x
+
+-- what is said of the vertex, by either call
+pub judged-plain : {text : List ℕ} {i v b : ℕ} {work wit : List ℕ} {r : Lateness} {work′ wit′ : List ℕ} → TextJudged plain text i v b work wit r work′ wit′
+    → Judged text i v b work wit (r .verdict) work′ wit′
+judged-plain x = record { verdict = x .answered .verdict; cells = x .answered .cells; paths = x .answered .paths }
+
+pub judged-latest : {text : List ℕ} {i v b : ℕ} {work wit : List ℕ} {r : Lateness} {work′ wit′ : List ℕ} → TextJudged latest text i v b work wit r work′ wit′
+    → LatestJudged text i v b work wit r work′ wit′
+judged-latest x =
+    record {
+      judged = record { verdict = x .answered .verdict; cells = x .answered .cells; paths = x .answered .paths };
+      finish = x .finish;
+      cells = x .written;
+    }
 
 -- ---- of a whole table
 

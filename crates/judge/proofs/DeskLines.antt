@@ -8,7 +8,7 @@ use Rattle.meaning.specs.Lists.{gather}
 use Rattle.meaning.specs.Bounds.{largestD, deskBudget, deskWork, deskWitness, countsLine, lineLength, longestVertex, longestOutput}
 use Rattle.meaning.specs.Table.{Table}
 use Rattle.meaning.specs.Paths.{Path}
-use Rattle.meaning.specs.Verdict.{Verdict, meets, misses, unfinished, refused}
+use Rattle.meaning.specs.Verdict.{Verdict, meets, misses, unfinished, refused, plain}
 use Rattle.meaning.specs.Sound.{SoundTable}
 use Rattle.meaning.specs.Whole.{Place, places, countsOf}
 use Rattle.meaning.specs.Desk.{line, pathFrame, vertexFrames, verdictFrame, countsFrame, deskVerdict, tableFrames}
@@ -59,8 +59,8 @@ module _ (ts : Table) (s : SoundTable ts) where
       go (meets c) e = omega arith
       go (misses c ws) e =
           let p = place-in ts q m in
-          let short = path-lines-short 0 ws (miss-fits ts s (q .task) (q .vertex) (p .0) (p .1) deskBudget deskWork deskWitness c ws e) in
-          let few = miss-count ts s (q .task) (q .vertex) (p .0) (p .1) deskBudget deskWork deskWitness c ws e in
+          let short = path-lines-short 0 ws (miss-fits ts s (q .task) (q .vertex) (p .0) (p .1) plain deskBudget deskWork deskWitness c ws e) in
+          let few = miss-count ts s (q .task) (q .vertex) (p .0) (p .1) plain deskBudget deskWork deskWitness c ws e in
           let head = line-length (verdictFrame q 1 c) in
           omega (arith, length-append (line (verdictFrame q 1 c)) (pathLines 0 ws), head, short, few, p .0, s .taskCount)
       go (unfinished b) e = omega arith

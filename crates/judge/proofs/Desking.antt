@@ -6,7 +6,7 @@ use mathlib.Core.List.{List, [], _++_, map, append-nil, append-assoc}
 use lib.ListN.{length, length-append}
 use Rattle.meaning.specs.Bounds.{deskBudget, deskWork, deskWitness, countsLine, longestOutput}
 use Rattle.meaning.specs.Table as Meant
-use Rattle.meaning.specs.Verdict.{numbers}
+use Rattle.meaning.specs.Verdict.{numbers, plain}
 use Rattle.meaning.specs.Areas.{workNeed, Wrote}
 use Rattle.meaning.specs.Judge.{judged}
 use Rattle.meaning.specs.Sound.{SoundTable}
@@ -86,7 +86,7 @@ module _ {t : Table} {out now work wit : List ℕ} {c : Counts} {q : Place} {at 
 
     abbrev Judged : Verdict → List ℕ → List ℕ → Type 0
     Judged r work′ wit′ =
-        Answered (judged ts (q .task) (q .vertex) deskBudget (length work) (length wit)) (workNeed ts (q .task) (q .vertex)) work wit r work′ wit′
+        Answered (judged plain ts (q .task) (q .vertex) deskBudget (length work) (length wit)) [] (workNeed ts (q .task) (q .vertex)) work wit r work′ wit′
 
     module _ {r : Verdict} {work′ wit′ : List ℕ} (a : Judged r work′ wit′) where
       shown : Shown ts q r wit′

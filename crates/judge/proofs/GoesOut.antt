@@ -4,6 +4,7 @@ use Prim.Native.Nat.{ℕ}
 use native.Mathlib.Omega.{arith}
 use mathlib.Core.List.{List, Memᴰ·map, Memᴰ·of-map}
 use lib.Dec.{T}
+use Rattle.meaning.specs.Verdict.{plain}
 use Rattle.meaning.specs.Table.{Table}
 use Rattle.meaning.specs.Text.{Reading, readable, unreadable, read}
 use Rattle.meaning.specs.Areas.{witnessNeed}
@@ -40,8 +41,8 @@ module _ (text : List ℕ) (b n : ℕ) where
       let v = p .vertex in
       let need = witnessNeed ts i v in
       let x = h p m in
-      let from-text = ap (λ (k : Reading). onReading k (λ (us : Table). judged us i v b n need)) q in
-      meets-says text ts q i v (sound-higher ts i (readable-sound text ts q)) b n need (x .0) (from-text ∙ x .1) .0
+      let from-text = ap (λ (k : Reading). onReading k (λ (us : Table). judged plain us i v b n need)) q in
+      meets-says plain text ts q i v (sound-higher ts i (readable-sound text ts q)) b n need (x .0) (from-text ∙ x .1) .0
 
   only : (r : TableVerdict) (m : Reading) → read text ≡ m → answerOf r ≡ tableAnswer m b n → SaysYes r → (ts : Table) × (read text ≡ readable ts) × NoneLate ts
   only r (readable ts) q e t = (ts, q, late-none ts q (all-meet r ts e t))

@@ -1,6 +1,7 @@
 pub mod Sheet
 pub mod Higher
 pub mod Missing
+pub mod Told
 pub mod OneVertex
 pub mod Remaining
 pub mod SoFar

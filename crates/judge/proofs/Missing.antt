@@ -10,9 +10,8 @@ use Rattle.meaning.specs.Bounds.{mostHigher, largestD}
 use Rattle.meaning.specs.Table as Meant
 use Rattle.meaning.specs.Table.{higher}
 use Rattle.meaning.specs.Paths.{Path}
-use Rattle.meaning.specs.Verdict.{cellsOf}
 use Rattle.meaning.specs.Areas.{Wrote}
-use Rattle.meaning.proofs.Wrote.{Gathering, gathering-none, gathering-more, gathering-all}
+use Rattle.meaning.proofs.Wrote.{Gathering, gathering-none, gathering-more}
 use Rattle.table.specs.declared.Task.{Task}
 use Rattle.table.specs.declared.Table.{Table}
 use Rattle.table.specs.Inner.{taskOf, tableOf, HeldTask, Held}
@@ -67,7 +66,6 @@ module _ (t : Table) (k : Held t) (h : ℕ) (l : h < t .n) (d : ℕ) (o : 0 < d)
               (subst (λ (x : Path). Wrote (pathCell x) now at after next) same v);
         }
 
-  pub miss-all : {now : List ℕ} {at j : ℕ} → MissTo ks h d ps before now at j → h ≤ j → Wrote (cellsOf (pathsAt ks d ps)) before 0 now at × (at ≤ h * (1 + d))
-  miss-all {at = at} {j = j} w m =
-      let e : j ≡ h = omega (arith, w .low) in
-      (gathering-all pathCell (pathsAt ks d ps) (w .gathered) (omega (arith, long)), subst (λ (n : ℕ). at ≤ n * (1 + d)) e (w .short))
+-- no more cells than all paths have room for
+pub miss-short : {ks : List Meant.Task} {h d : ℕ} {ps before now : List ℕ} {at j : ℕ} → MissTo ks h d ps before now at j → at ≤ h * (1 + d)
+miss-short {d = d} w = le-trans (w .short) (mul-le-mul-right (1 + d) (w .low))

@@ -3,8 +3,7 @@ use mathlib.Core.Path.{_≡_, refl, sym, ap, ap₂, subst, _∙_}
 use Prim.Native.Nat.{ℕ, _+_, _*_, _≤_, _<_, min}
 use native.Mathlib.Omega.{arith}
 use native.Mathlib.Nat.{le-trans}
-use native.Mathlib.Decide.{decLt}
-use mathlib.Core.List.{List, [], _∷_, _++_}
+use mathlib.Core.List.{List, _++_}
 use lib.ListN.{length, take, drop, getD, replicate}
 use lib.Seq.{sets, take-at, drop-at}
 use Rattle.meaning.specs.Bounds.{mostHigher, mostPaths, largestD, largestE}
@@ -12,24 +11,21 @@ use Rattle.meaning.specs.Table as Meant
 use Rattle.meaning.specs.Table.{taskAt, higher}
 use Rattle.meaning.specs.Verdict as Said
 use Rattle.meaning.specs.Paths.{Path, pathsOf}
-use Rattle.meaning.specs.Verdict.{cellsOf, walked, deadline, numbers}
-use Rattle.meaning.specs.Areas.{rowsFor, workNeed, witnessNeed, written, zeroed, workAfter, witnessAfter, Wrote}
+use Rattle.meaning.specs.Groups.{worst}
+use Rattle.meaning.specs.Verdict.{shownPaths, beside, loadOf, topOf, walked, ownE, deadline, meetsPaths}
+use Rattle.meaning.specs.Areas as Areas
+use Rattle.meaning.specs.Areas.{rowsFor, workNeed, witnessNeed, zeroed, Wrote}
 use Rattle.meaning.specs.Judge.{judged}
-use Rattle.meaning.proofs.Wrote.{front-set}
-use Rattle.kinds.specs.declared.Refusal.{Refusal}
-use Rattle.kinds.specs.declared.Refusal.the-variants.{NoSuchVertex, TooManyPaths, WorkTooShort, WitnessTooShort}
+use Rattle.kinds.specs.declared.Refusal.the-variants.{TooManyPaths}
 use Rattle.kinds.specs.declared.RefusedAt.{RefusedAt}
 use Rattle.kinds.specs.declared.Verdict as Kinds
 use Rattle.kinds.specs.declared.Verdict.the-variants as Kind
-use Rattle.kinds.specs.Numbers.{refusalNumber, verdictNumbers}
 use Rattle.table.specs.declared.Task.{Task}
 use Rattle.table.specs.declared.Table.{Table}
 use Rattle.table.specs.Inner.{taskOf, tableOf, HeldTask, Held}
 use Rattle.table.proofs.Records.{held-count, held-one}
 use Rattle.table.proofs.Vertices.{ownTask, ownVertex, own-size, job-sound, job-d, job-e}
 use Rattle.ways.specs.Ways.{mostCounted}
-use Rattle.walk.specs.declared.Ending.{Ending}
-use Rattle.walk.specs.declared.Ending.the-variants.{Meets, Misses, Unfinished}
 use Rattle.walk.specs.declared.Walked.{Walked}
 use Rattle.walk.specs.Lent.{Walkable}
 use Rattle.walk.specs.Steps.{runRows}
@@ -42,43 +38,23 @@ use Rattle.areas.proofs.Counting.{above-rows}
 use Rattle.areas.proofs.Filling.{Few, rows-fit, need-is, counts-length}
 use Rattle.sheet.specs.declared.AreaRows.{AreaRows}
 use Rattle.sheet.specs.declared.AreaRows.the-variants.{Passed, Refused}
-use Rattle.sheet.specs.Sheet.{refusedAt, noSuchVertex, tooManyPaths, areaRows, saidOf}
-use Rattle.sheet.proofs.Needs.{cells-small, row-10, row-11, rows-passed, area-rooms, same-at, not-refused}
-use Rattle.search.specs.Meant.{meantBy}
+use Rattle.sheet.specs.Sheet.{tooManyPaths, areaRows, saidOf}
+use Rattle.sheet.proofs.Needs.{cells-small, area-rooms}
+use Rattle.search.specs.Meant.{meantBy, firstBar, written}
 use Rattle.search.proofs.Joining.{walkable}
-use Rattle.search.proofs.Ending.{places-are, places-small, walked-is}
-use Rattle.judge.specs.Inner.{Answered, There}
+use Rattle.search.proofs.Ending.{lastBar, meetsOf, written-few, places-are, walked-is, finish-is, written-are, places-small}
+use Rattle.judge.specs.Inner.{lastTick, AnsweredBy, There}
+use Rattle.judge.specs.declared.Lateness.{Lateness}
+use Rattle.judge.proofs.Told.{aloneBy, answer-refused, answer-area, answer-ended}
 use Rattle.judge.proofs.Higher.{many, seven, CountedTo, counted-none, crowds, count-pos, with-asks, counted-more, all-counted, all-few}
 use Rattle.judge.proofs.Higher.{FilledTo, filled-none, fill-asks, filled-more, filled-all}
-use Rattle.judge.proofs.Missing.{MissTo, miss-none, place-asks, miss-more, miss-all}
-use Rattle.judge.proofs.Sheet.{none-crowded, first-crowded, need-rows, no-task, no-vertex, at-9, at-10, at-11, at-walk}
-
-answer-refused : (J : Said.Verdict) (ρ : Refusal) (place need : ℕ) (work wit : List ℕ) {x : Kinds.Verdict}
-    → x ≡ Kind.Refused (refusedAt ρ place) → J ≡ Said.refused (refusalNumber ρ) place → Answered J need work wit x work wit
-answer-refused J ρ place need work wit {x} e q =
-    subst (λ (y : Kinds.Verdict). Answered J need work wit y work wit) (sym e)
-    (subst (λ y. Answered y need work wit (Kind.Refused (refusedAt ρ place)) work wit) (sym q) (record { verdict = refl; cells = refl; paths = refl }))
-
--- ---- a vertex that the table hasn't
-
-module _ (t : Table) (k : Held t) (i v b : ℕ) (work wit : List ℕ) where
-  abbrev Refuses : Kinds.Verdict → Type 0
-  Refuses x = Answered (judged (tableOf t) i v b (length work) (length wit)) (workNeed (tableOf t) i v) work wit x work wit
-
-  -- "no such task or vertex"
-  pub answer-8 : t .n ≤ i → {x : Kinds.Verdict} → x ≡ noSuchVertex → Refuses x
-  answer-8 h e = answer-refused _ NoSuchVertex 0 _ work wit e (no-task (tableOf t) i v b (length work) (length wit) (omega (arith, held-count t k)))
-
-  pub answer-8-vertex : i < t .n → ownTask t i .nv ≤ v → {x : Kinds.Verdict} → x ≡ noSuchVertex → Refuses x
-  answer-8-vertex l h e = answer-refused _ NoSuchVertex 0 _ work wit e
-      (no-vertex (tableOf t) i v b (length work) (length wit) (omega (arith, own-size t k i l)))
-
-  pub is-there : i < t .n → v < ownTask t i .nv → There (tableOf t) (record { task = i; vertex = v })
-  is-there l m = record { task = omega (arith, held-count t k); vertex = omega (arith, own-size t k i l) }
+use Rattle.judge.proofs.Missing.{MissTo, miss-none, place-asks, miss-more, miss-short}
+use Rattle.judge.proofs.Sheet.{none-crowded, first-crowded, need-rows, at-9, at-10, at-11, at-walk}
 
 -- ---- a vertex of the table, with its budget and areas
 
 pub record Asked : Type 0 where
+  pub asks : Said.Asked
   pub table : Table
   pub held : Held table
   pub task : ℕ
@@ -89,6 +65,9 @@ pub record Asked : Type 0 where
   pub there : There (tableOf table) (record { task = task; vertex = vertex })
 
 module _ (asked : Asked) where
+  abbrev asks : Said.Asked
+  asks = asked .asks
+
   abbrev t : Table
   t = asked .table
 
@@ -114,10 +93,20 @@ module _ (asked : Asked) where
   ts = tableOf t
 
   abbrev J : Said.Verdict
-  J = judged ts i v b (length work) (length wit)
+  J = judged asks ts i v b (length work) (length wit)
+
+  -- the paths that a meets writes, and where the bar is then
+  abbrev us : List Path
+  us = meetsPaths asks ts i v
+
+  abbrev tick : ℕ
+  tick = lastTick asks ts i v
 
   abbrev need : ℕ
   need = workNeed ts i v
+
+  abbrev Refused₁ : Lateness → Type 0
+  Refused₁ r = AnsweredBy J us tick need work wit r work wit
 
   th : There ts (record { task = i; vertex = v })
   th = asked .there
@@ -167,12 +156,15 @@ module _ (asked : Asked) where
     -- the next has r paths, cut off past the most that are allowed
     module _ (z : Task) (m : j < i) (r : ℕ) (n : r ≡ min (mostPaths + 1) (length (pathsOf (taskOf (getD (t .tasks) j z)) d))) where
       -- "some higher task has more than 64 complete paths": the lowest-numbered such task
-      pub answer-9 : mostPaths < r → {x : Kinds.Verdict} → x ≡ tooManyPaths j → Answered J need work wit x work wit
-      answer-9 h q =
-          let few : (o : ℕ) → o < j → getD (pathCounts ks D) o 0 ≤ mostPaths = λ o u. subst (λ (y : ℕ). getD (pathCounts ks y) o 0 ≤ mostPaths) d-is (c .few o u) in
-          let over : mostPaths < getD (pathCounts ks D) j 0 = subst (λ (y : ℕ). mostPaths < getD (pathCounts ks y) j 0) d-is (crowds t k i task-in d z c m r n h) in
+      pub answer-9 : mostPaths < r → {y : Lateness} {x : Kinds.Verdict} → y ≡ aloneBy x → x ≡ tooManyPaths j → Refused₁ y
+      answer-9 h p q =
+          let few : (o : ℕ) → o < j → getD (pathCounts ks D) o 0 ≤ mostPaths =
+          λ o u. subst (λ (y : ℕ). getD (pathCounts ks y) o 0 ≤ mostPaths) d-is (c .few o u) in
+          let over : mostPaths < getD (pathCounts ks D) j 0 =
+          subst (λ (y : ℕ). mostPaths < getD (pathCounts ks y) j 0) d-is (crowds t k i task-in d z c m r n h) in
           let f = first-crowded ts i D within j m few over in
-          answer-refused J TooManyPaths j need work wit q (at-9 ts i v b (length work) (length wit) there (f .0) ∙ ap (Said.refused 9) (f .1))
+          answer-refused J us tick TooManyPaths j need work wit p q
+          (at-9 asks ts i v b (length work) (length wit) there (f .0) ∙ ap (Said.refused 9) (f .1))
 
       pub with-paths-asks : r ≤ mostPaths → (Counted j a × (j < mostHigher)) × ((0 < r) × (r ≤ mostPaths) × (d ≤ largestD))
       with-paths-asks h = (with-asks t k i task-in d z c m r n h, (count-pos t k i task-in d z c m r n h, h, d-bounds .1))
@@ -197,14 +189,14 @@ module _ (asked : Asked) where
     c : CountedTo ks i d a j
     c = s .counted
 
-    full : i ≤ j
-    full = s .full
-
     few-paths : Few ks d
-    few-paths = all-few t k i task-in d c full d-bounds
+    few-paths = all-few t k i task-in d c (s .full) d-bounds
 
-    a-is : a ≡ aboveOf d (pathCounts ks d)
-    a-is = all-counted t k i task-in d c full
+    abbrev a₀ : Above
+    a₀ = aboveOf d (pathCounts ks d)
+
+    a-is : a ≡ a₀
+    a-is = all-counted t k i task-in d c (s .full)
 
     rows-are : a .rows ≡ rowsIn (pathCounts ks d)
     rows-are = ap (λ (x : Above). x .rows) a-is ∙ above-rows d (pathCounts ks d) (omega (arith, counts-length ks d few-paths, few-paths .seven))
@@ -223,25 +215,12 @@ module _ (asked : Asked) where
 
     -- rows 10 and 11
     pub answer-areas : {x : AreaRows} → x ≡ areaRows (a .rows * d) (i * (1 + d)) (length work) (length wit)
-        → {at : RefusedAt} → x ≡ Refused at → Answered J need work wit (Kind.Refused at) work wit
-    answer-areas p {at} q′ = by (decLt (length work) (a .rows * d)) (decLt (length wit) (i * (1 + d)))
-      where
-        q : areaRows (a .rows * d) (i * (1 + d)) (length work) (length wit) ≡ Refused at
-        q = sym p ∙ q′
-
-        refused-as : (ρ : Refusal) (place : ℕ) → areaRows (a .rows * d) (i * (1 + d)) (length work) (length wit) ≡ Refused (refusedAt ρ place)
-            → J ≡ Said.refused (refusalNumber ρ) place
-            → Answered J need work wit (Kind.Refused at) work wit
-        refused-as ρ place e′ said = answer-refused J ρ place need work wit (ap Kind.Refused (sym (same-at (sym e′ ∙ q)))) said
-
-        by : Dec (length work < a .rows * d) → Dec (length wit < i * (1 + d)) → Answered J need work wit (Kind.Refused at) work wit
-        by (yes h) x =
-            refused-as WorkTooShort (a .rows * d) (sym (row-10 (a .rows * d) (i * (1 + d)) (length work) (length wit) h))
-            (at-10 ts i v b (length work) (length wit) there none (omega (arith, needs-are)) ∙ ap (Said.refused 10) (sym needs-are))
-        by (no h) (yes l) =
-            refused-as WitnessTooShort (i * (1 + d)) (sym (row-11 (a .rows * d) (i * (1 + d)) (length work) (length wit) (omega arith) l))
-            (at-11 ts i v b (length work) (length wit) there none (omega (arith, needs-are)) (omega (arith, cells-are)) ∙ ap (Said.refused 11) (sym cells-are))
-        by (no h) (no l) = absurd (not-refused (rows-passed (a .rows * d) (i * (1 + d)) (length work) (length wit) (omega arith) (omega arith) ∙ q))
+        → {at : RefusedAt} → x ≡ Refused at → {y : Lateness} → y ≡ aloneBy (Kind.Refused at) → Refused₁ y
+    answer-areas =
+        answer-area (a .rows * d) (i * (1 + d))
+        (λ h. at-10 asks ts i v b (length work) (length wit) there none (omega (arith, needs-are)) ∙ ap (Said.refused 10) (sym needs-are))
+        (λ h l. at-11 asks ts i v b (length work) (length wit) there none (omega (arith, needs-are)) (omega (arith, cells-are))
+        ∙ ap (Said.refused 11) (sym cells-are))
 
     -- no row refuses the areas
     pub record RowsPassed : Type 0 where
@@ -253,7 +232,7 @@ module _ (asked : Asked) where
       rooms : (a .rows * d ≤ length work) × (i * (1 + d) ≤ length wit)
       rooms = area-rooms (a .rows * d) (i * (1 + d)) (length work) (length wit) (sym (o .are) ∙ o .passed)
 
-      room : aboveOf d (pathCounts ks d) .rows * d ≤ length work
+      room : a₀ .rows * d ≤ length work
       room = subst (λ (x : Above). x .rows * d ≤ length work) a-is (rooms .0)
 
       -- ---- their stretches are filled, one after the other
@@ -289,7 +268,7 @@ module _ (asked : Asked) where
         f : FilledTo ks i d work W n
         f = u .filled
 
-        filled : W ≡ written (stretches ks d) work
+        filled : W ≡ Areas.written (stretches ks d) work
         filled = filled-all t k i task-in d few-paths work room f (u .full)
 
         need-long : length (stretches ks d) ≡ a .rows * d
@@ -308,92 +287,113 @@ module _ (asked : Asked) where
         pub search-asks : ((a .rows ≤ rowsFor mostPaths * mostHigher) × (d ≤ largestD) × (a .rows * d ≤ length W))
             × Walkable i d e (a .roots) (a .counts) (take (a .rows * d) W)
         search-asks =
-            let w : Walkable i d e (aboveOf d (pathCounts ks d) .roots) (aboveOf d (pathCounts ks d) .counts) (stretches ks d) = (
-            subst (λ (n : ℕ). Walkable n d e (aboveOf d (pathCounts ks d) .roots) (aboveOf d (pathCounts ks d) .counts) (stretches ks d))
-            (many t k i task-in d) (walkable ks d few-paths e e-small)
-            ) in
-            let x : Walkable i d e (a .roots) (a .counts) (stretches ks d) = subst (λ (y : Above). Walkable i d e (y .roots) (y .counts) (stretches ks d)) (sym a-is) w in
+            let w : Walkable i d e (a₀ .roots) (a₀ .counts) (stretches ks d) =
+            subst (λ (n : ℕ). Walkable n d e (a₀ .roots) (a₀ .counts) (stretches ks d)) (many t k i task-in d) (walkable ks d few-paths e e-small) in
+            let x : Walkable i d e (a .roots) (a .counts) (stretches ks d) =
+            subst (λ (y : Above). Walkable i d e (y .roots) (y .counts) (stretches ks d)) (sym a-is) w in
             ((area-asks .0, d-bounds .1, omega (arith, rooms .0, f .gathered .same)), subst (Walkable i d e (a .roots) (a .counts)) (sym front) x)
 
         -- ---- and walked
 
         pub record Ran : Type 0 where
           pub result : Walked
-          pub is : result ≡ runRows (take (a .rows * d) W) d e (take i (a .roots)) (take i (a .counts)) b
+          pub is : result ≡ runRows (take (a .rows * d) W) d e (take i (a .roots)) (take i (a .counts)) (firstBar asks d) b
+
+        pub ran-is : {bar : ℕ} → bar ≡ firstBar asks d → {r : Walked}
+            → r ≡ runRows (take (a .rows * d) W) d e (take i (a .roots)) (take i (a .counts)) bar b
+            → r ≡ runRows (take (a .rows * d) W) d e (take i (a .roots)) (take i (a .counts)) (firstBar asks d) b
+        ran-is q p = p ∙ ap (λ (n : ℕ). runRows (take (a .rows * d) W) d e (take i (a .roots)) (take i (a .counts)) n b) q
 
         module _ (y : Ran) where
           abbrev r : Walked
           r = y .result
 
-          ran : r ≡ runRows (take (a .rows * d) W) d e (take i (a .roots)) (take i (a .counts)) b
-          ran = y .is
+          abbrev Ran-from : Said.Asked → Type 0
+          Ran-from z = r ≡ runRows (stretches ks d) d e (take (length ks) (a₀ .roots)) (take (length ks) (a₀ .counts)) (firstBar z d) b
 
-          abbrev a₀ : Above
-          a₀ = aboveOf d (pathCounts ks d)
-
-          ran-front : r ≡ runRows (stretches ks d) d e (take (length ks) (a₀ .roots)) (take (length ks) (a₀ .counts)) b
+          ran-front : Ran-from asks
           ran-front =
-              ran
-              ∙ ap (λ (x : List ℕ). runRows x d e (take i (a .roots)) (take i (a .counts)) b) front
-              ∙ ap (λ (x : Above). runRows (stretches ks d) d e (take i (x .roots)) (take i (x .counts)) b) a-is
-              ∙ ap (λ (n : ℕ). runRows (stretches ks d) d e (take n (a₀ .roots)) (take n (a₀ .counts)) b) (sym (many t k i task-in d))
+              y .is
+              ∙ ap (λ (x : List ℕ). runRows x d e (take i (a .roots)) (take i (a .counts)) (firstBar asks d) b) front
+              ∙ ap (λ (x : Above). runRows (stretches ks d) d e (take i (x .roots)) (take i (x .counts)) (firstBar asks d) b) a-is
+              ∙ ap (λ (n : ℕ). runRows (stretches ks d) d e (take n (a₀ .roots)) (take n (a₀ .counts)) (firstBar asks d) b) (sym (many t k i task-in d))
 
           abbrev ws : List Path
           ws = pathsAt ks d (r .places)
 
           seven-places : length (r .places) ≡ mostHigher
-          seven-places = places-are ks d few-paths e b e-small r ran-front
+          seven-places = places-are asks ks d few-paths e b e-small r ran-front
 
-          -- ---- the cells of a miss, one path after the other
+          -- ---- the paths that are written, one after the other
 
-          pub missing-none : MissTo ks i d (r .places) wit wit 0 0
-          missing-none = miss-none t k i task-in d (d-bounds .0) (d-bounds .1) (r .places) wit seven-places (rooms .1)
+          abbrev shown : ℕ
+          shown = written asks (r .ending) i
 
-          module _ (z : Task) {now : List ℕ} {at n′ : ℕ} (w : MissTo ks i d (r .places) wit now at n′) (m : n′ < i) where
-            pub write-asks : (c′ : ℕ) → r .ending ≡ Misses c′ → (let place = getD (r .places) n′ 0 in
+          -- the area became wit′, with so many cells written
+          abbrev pub AllWritten : List ℕ → ℕ → Type 0
+          AllWritten wit′ cells = MissTo ks i d (r .places) wit wit′ cells shown
+
+          pub shown-within : {stop : ℕ} → stop ≡ shown → stop ≤ i
+          shown-within is = omega (arith, written-few asks (r .ending) i)
+
+          pub writing-none : {stop : ℕ} → stop ≡ shown → MissTo ks i d (r .places) wit wit 0 0 × (0 ≤ stop)
+          writing-none is = (miss-none t k i task-in d (d-bounds .0) (d-bounds .1) (r .places) wit seven-places (rooms .1), omega arith)
+
+          module _ {stop : ℕ} (is : stop ≡ shown) (z : Task) {now : List ℕ} {at n′ : ℕ} (w : MissTo ks i d (r .places) wit now at n′) (m : n′ < stop) where
+            low : n′ < i
+            low = omega (arith, shown-within is)
+
+            pub write-asks : (let place = getD (r .places) n′ 0 in
                 HeldTask (getD (t .tasks) n′ z) × (0 < d) × (d ≤ largestD) × (place ≤ mostCounted) × (at + (1 + d) ≤ length now))
-            write-asks c′ q =
-                let small = places-small ks d few-paths e b e-small r ran-front c′ q n′ (omega (arith, many t k i task-in d)) in
-                place-asks t k i task-in d (d-bounds .0) (d-bounds .1) (r .places) wit seven-places (rooms .1) z w m small
+            write-asks =
+                let all : written asks (r .ending) (length ks) ≡ shown = ap (written asks (r .ending)) (many t k i task-in d) in
+                let small = places-small asks ks d few-paths e b e-small r ran-front n′ (omega arith) in
+                place-asks t k i task-in d (d-bounds .0) (d-bounds .1) (r .places) wit seven-places (rooms .1) z w low small
 
-            pub missing-more : {after : List ℕ} {next : ℕ}
+            pub writing-more : {after : List ℕ} {next : ℕ}
                 → Wrote (pathCell (pathAt (taskOf (getD (t .tasks) n′ z)) d (getD (r .places) n′ 0))) now at after next × (next ≤ at + (1 + d))
-                → MissTo ks i d (r .places) wit after next (n′ + 1)
-            missing-more = miss-more t k i task-in d (d-bounds .0) (d-bounds .1) (r .places) wit seven-places (rooms .1) z w m
+                → MissTo ks i d (r .places) wit after next (n′ + 1) × (n′ + 1 ≤ stop)
+            writing-more v = (miss-more t k i task-in d (d-bounds .0) (d-bounds .1) (r .places) wit seven-places (rooms .1) z w low v, omega arith)
 
-          pub missing-all : {now : List ℕ} {at n′ : ℕ} → MissTo ks i d (r .places) wit now at n′ → i ≤ n′ → Wrote (cellsOf ws) wit 0 now at × (at ≤ i * (1 + d))
-          missing-all = miss-all t k i task-in d (d-bounds .0) (d-bounds .1) (r .places) wit seven-places (rooms .1)
+          pub writing-all : {stop : ℕ} → stop ≡ shown → {now : List ℕ} {at n′ : ℕ} → MissTo ks i d (r .places) wit now at n′ → n′ ≤ stop → stop ≤ n′
+              → AllWritten now at
+          writing-all is {now} {at} w l m = subst (MissTo ks i d (r .places) wit now at) (omega arith) w
 
-          pub cells-few : {m : ℕ} → m ≤ i * (1 + d) → m ≤ mostHigher * (1 + largestD)
-          cells-few h = le-trans h (cells-small i d (seven t k i task-in d) (d-bounds .1))
+          pub cells-few : {now : List ℕ} {at : ℕ} → AllWritten now at → at ≤ mostHigher * (1 + largestD)
+          cells-few w = le-trans (miss-short w) (cells-small i d (seven t k i task-in d) (d-bounds .1))
+
+          -- ---- what the walk says
+
+          e-is : e ≡ ownE ts i v
+          e-is = job-e t k i task-in v vertex-in
 
           judged-is : J ≡ meantBy (r .ending) ws
           judged-is =
-              at-walk ts i v b (length work) (length wit) there none (omega (arith, needs-are, rooms .0)) (omega (arith, cells-are, rooms .1))
-              ∙ sym (ap₂ (walked b ks) (job-e t k i task-in v vertex-in) d-is)
-              ∙ walked-is ks d few-paths e b e-small r ran-front
+              at-walk asks ts i v b (length work) (length wit) there none (omega (arith, needs-are, rooms .0)) (omega (arith, cells-are, rooms .1))
+              ∙ sym (ap₂ (walked asks b ks) e-is d-is)
+              ∙ walked-is asks ks d few-paths e b e-small r ran-front
 
-          module _ (Z : List ℕ) (clear : Z ≡ zeroed (a .rows * d) W) where
-            -- the answer x, where the walk ended so and the witness area became wit′
-            ended : (end : Ending) (x : Kinds.Verdict) (wit′ : List ℕ) → J ≡ meantBy end ws → verdictNumbers x ≡ numbers (meantBy end ws)
-                → zeroed need work ≡ workAfter (meantBy end ws) need work
-                → wit′ ≡ witnessAfter (meantBy end ws) wit → Answered J need work wit x Z wit′
-            ended end x wit′ q n c′ p = subst (λ y. Answered y need work wit x Z wit′) (sym q) (record { verdict = n; cells = clear ∙ cleared ∙ c′; paths = p })
+          shown-are : shownPaths us (meantBy (r .ending) ws) ≡ take shown ws
+          shown-are =
+              ap (λ (ps : List Path). shownPaths ps (meantBy (r .ending) ws)) (meets-paths asks)
+              ∙ written-are asks ks d few-paths e b e-small r ran-front ∙ ap (λ (n : ℕ). take (written asks (r .ending) n) ws) (many t k i task-in d)
+            where
+              meets-paths : (z : Said.Asked) → meetsPaths z ts i v ≡ meetsOf z ks e d
+              meets-paths Said.plain = refl
+              meets-paths Said.latest = ap₂ (meetsOf Said.latest ks) (sym e-is) (sym d-is)
 
-            pub answer-meets : (n : ℕ) → r .ending ≡ Meets n → {x : Kinds.Verdict} → x ≡ saidOf (r .ending) 0 → Answered J need work wit x Z wit
-            answer-meets n q {x} e′ =
-                ended (Meets n) x wit (judged-is ∙ ap (λ (y : Ending). meantBy y ws) q) (ap verdictNumbers (e′ ∙ ap (λ (y : Ending). saidOf y 0) q)) refl refl
+          tick-is : r .finish ≡ beside (meantBy (r .ending) ws) tick
+          tick-is = finish-is asks ks d few-paths e b e-small r ran-front ∙ ap (beside (meantBy (r .ending) ws)) (last-tick asks)
+            where
+              last-tick : (z : Said.Asked) → lastBar z e d (topOf ks d) .tick ≡ lastTick z ts i v
+              last-tick Said.plain = d-is
+              last-tick Said.latest = ap₂ (λ (x y : ℕ). worst loadOf x y (topOf ks y)) e-is d-is
 
-            pub answer-unfinished : (n : ℕ) → r .ending ≡ Unfinished n → {x : Kinds.Verdict} → x ≡ saidOf (r .ending) 0 → Answered J need work wit x Z wit
-            answer-unfinished n q {x} e′ =
-                ended (Unfinished n) x wit (judged-is ∙ ap (λ (y : Ending). meantBy y ws) q)
-                (ap verdictNumbers (e′ ∙ ap (λ (y : Ending). saidOf y 0) q)) refl refl
-
-            pub answer-misses : (n : ℕ) → r .ending ≡ Misses n → (m : ℕ) (wit′ : List ℕ) → Wrote (cellsOf ws) wit 0 wit′ m × (m ≤ i * (1 + d))
-                → {x : Kinds.Verdict} → x ≡ saidOf (r .ending) m
-                → Answered J need work wit x Z wit′
-            answer-misses n q m wit′ (w, short) {x} e′ =
-                let long : m ≡ length (cellsOf ws) = w .end ∙ omega arith in
-                ended (Misses n) x wit′ (judged-is ∙ ap (λ (y : Ending). meantBy y ws) q)
-                (ap verdictNumbers (e′ ∙ ap (λ (y : Ending). saidOf y m) q) ∙ ap (λ (y : ℕ). 1 ∷ n ∷ y ∷ []) long) refl
-                (w .cells ∙ front-set (cellsOf ws) wit (omega (arith, rooms .1)))
+          -- the answer, where the work cells became Z and the witness area wit′
+          pub answer-walked : {Z : List ℕ} → Z ≡ zeroed (a .rows * d) W → {wit′ : List ℕ} {cells : ℕ} → AllWritten wit′ cells
+              → {x : Kinds.Verdict} → x ≡ saidOf (r .ending) cells
+              → AnsweredBy J us tick need work wit (record { verdict = x; finish = r .finish; cells = cells }) Z wit′
+          answer-walked {Z} clear {wit′} {cells} w {x} q =
+              subst (λ (y : Said.Verdict). AnsweredBy y us tick need work wit (record { verdict = x; finish = r .finish; cells = cells }) Z wit′)
+              (sym judged-is)
+              (answer-ended (r .ending) ws shown-are (w .gathered .wrote) (omega (arith, miss-short w, rooms .1)) tick-is (clear ∙ cleared) q)

@@ -14,7 +14,7 @@ use Rattle.meaning.specs.Bounds.{mostPaths}
 use Rattle.meaning.specs.Table as Meant
 use Rattle.meaning.specs.Table.{noTask, taskAt, higher}
 use Rattle.meaning.specs.Paths.{pathsOf}
-use Rattle.meaning.specs.Verdict.{Verdict, refused, deadline}
+use Rattle.meaning.specs.Verdict.{Verdict, refused, deadline, Asked}
 use Rattle.meaning.specs.Areas.{rowsFor, rowsOf, workNeed, witnessNeed}
 use Rattle.meaning.specs.Judge.{Row, crowded, row8, row9, row10, row11, unlessRefused, judged}
 use Rattle.meaning.proofs.Lists.{getD-mapped, and-false}
@@ -83,9 +83,9 @@ module _ (ts : Meant.Table) (i d : ℕ) (w : i ≤ length ts) where
 
 -- ---- the judgement at each row
 
-module _ (ts : Meant.Table) (i v b lw lx : ℕ) where
+module _ (asked : Asked) (ts : Meant.Table) (i v b lw lx : ℕ) where
   abbrev J : Verdict
-  J = judged ts i v b lw lx
+  J = judged asked ts i v b lw lx
 
   abbrev There : Type 0
   There = (i < length ts) × (v < length (taskAt ts i .vertices))
@@ -104,11 +104,11 @@ module _ (ts : Meant.Table) (i v b lw lx : ℕ) where
 
   pub no-task : length ts ≤ i → J ≡ refused 8 0
   unfolding judged
-  no-task h = ap (λ o. unlessRefused o (walkedAt ts i v b)) (row-some r8 (r9 ∷ r10 ∷ r11 ∷ []) (rw (le-ltb i (length ts) h)))
+  no-task h = ap (λ o. unlessRefused o (walkedAt asked ts i v b)) (row-some r8 (r9 ∷ r10 ∷ r11 ∷ []) (rw (le-ltb i (length ts) h)))
 
   pub no-vertex : length (taskAt ts i .vertices) ≤ v → J ≡ refused 8 0
   unfolding judged
-  no-vertex h = ap (λ o. unlessRefused o (walkedAt ts i v b))
+  no-vertex h = ap (λ o. unlessRefused o (walkedAt asked ts i v b))
       (row-some r8 (r9 ∷ r10 ∷ r11 ∷ []) (rw (le-ltb v (length (taskAt ts i .vertices)) h) (ap not (and-false (ltb i (length ts))))))
 
   module _ (th : There) where
@@ -117,7 +117,7 @@ module _ (ts : Meant.Table) (i v b lw lx : ℕ) where
 
     pub at-9 : 0 < length (crowded ts i (deadline ts i v)) → J ≡ refused 9 (getD (crowded ts i (deadline ts i v)) 0 0)
     unfolding judged
-    at-9 h = ap (λ o. unlessRefused o (walkedAt ts i v b)) (past8 ∙ row-some r9 (r10 ∷ r11 ∷ []) (lt-ltb 0 (length (crowded ts i (deadline ts i v))) h))
+    at-9 h = ap (λ o. unlessRefused o (walkedAt asked ts i v b)) (past8 ∙ row-some r9 (r10 ∷ r11 ∷ []) (lt-ltb 0 (length (crowded ts i (deadline ts i v))) h))
 
     module _ (few : length (crowded ts i (deadline ts i v)) ≤ 0) where
       past9 : firstRow (r8 ∷ r9 ∷ r10 ∷ r11 ∷ []) ≡ firstRow (r10 ∷ r11 ∷ [])
@@ -125,7 +125,7 @@ module _ (ts : Meant.Table) (i v b lw lx : ℕ) where
 
       pub at-10 : lw < workNeed ts i v → J ≡ refused 10 (workNeed ts i v)
       unfolding judged
-      at-10 h = ap (λ o. unlessRefused o (walkedAt ts i v b)) (past9 ∙ row-some r10 (r11 ∷ []) (lt-ltb lw (workNeed ts i v) h))
+      at-10 h = ap (λ o. unlessRefused o (walkedAt asked ts i v b)) (past9 ∙ row-some r10 (r11 ∷ []) (lt-ltb lw (workNeed ts i v) h))
 
       module _ (cells : workNeed ts i v ≤ lw) where
         past10 : firstRow (r8 ∷ r9 ∷ r10 ∷ r11 ∷ []) ≡ firstRow (r11 ∷ [])
@@ -133,8 +133,8 @@ module _ (ts : Meant.Table) (i v b lw lx : ℕ) where
 
         pub at-11 : lx < witnessNeed ts i v → J ≡ refused 11 (witnessNeed ts i v)
         unfolding judged
-        at-11 h = ap (λ o. unlessRefused o (walkedAt ts i v b)) (past10 ∙ row-some r11 [] (lt-ltb lx (witnessNeed ts i v) h))
+        at-11 h = ap (λ o. unlessRefused o (walkedAt asked ts i v b)) (past10 ∙ row-some r11 [] (lt-ltb lx (witnessNeed ts i v) h))
 
-        pub at-walk : witnessNeed ts i v ≤ lx → J ≡ walkedAt ts i v b
+        pub at-walk : witnessNeed ts i v ≤ lx → J ≡ walkedAt asked ts i v b
         unfolding judged
-        at-walk h = ap (λ o. unlessRefused o (walkedAt ts i v b)) (past10 ∙ row-none r11 [] (le-ltb lx (witnessNeed ts i v) h))
+        at-walk h = ap (λ o. unlessRefused o (walkedAt asked ts i v b)) (past10 ∙ row-none r11 [] (le-ltb lx (witnessNeed ts i v) h))

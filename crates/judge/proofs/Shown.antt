@@ -2,14 +2,14 @@
 use mathlib.Core.Path.{_≡_, sym, ap, ap₂, subst, _∙_}
 use Prim.Native.Nat.{ℕ}
 use native.Mathlib.Omega.{arith}
-use mathlib.Core.List.{List, _++_, List·Memᴰ}
+use mathlib.Core.List.{List, [], _++_, List·Memᴰ}
 use lib.ListN.{length, drop}
 use Rattle.meaning.specs.Lists.{gather}
 use Rattle.meaning.specs.Bounds.{deskBudget, deskWork, deskWitness}
 use Rattle.meaning.specs.Table.{Table}
 use Rattle.meaning.specs.Paths.{Path}
 use Rattle.meaning.specs.Verdict as Said
-use Rattle.meaning.specs.Verdict.{misses, numbers, cellsOf}
+use Rattle.meaning.specs.Verdict.{misses, numbers, cellsOf, plain}
 use Rattle.meaning.specs.Areas.{witnessAfter}
 use Rattle.meaning.specs.Judge.{judged}
 use Rattle.meaning.specs.Sound.{SoundTable}
@@ -39,8 +39,8 @@ module _ (ts : Table) (s : SoundTable ts) (q : Place) (m : List·Memᴰ q (place
       → WholePaths (q .task) (cellsOf ws ++ rest) × (cellPaths (q .task) (cellsOf ws ++ rest) ≡ ws)
   cells-show c ws rest e =
       let p = place-in ts q m in
-      let many = miss-count ts s (q .task) (q .vertex) (p .0) (p .1) deskBudget deskWork deskWitness c ws e in
-      let fits = miss-fits ts s (q .task) (q .vertex) (p .0) (p .1) deskBudget deskWork deskWitness c ws e in
+      let many = miss-count ts s (q .task) (q .vertex) (p .0) (p .1) plain deskBudget deskWork deskWitness c ws e in
+      let fits = miss-fits ts s (q .task) (q .vertex) (p .0) (p .1) plain deskBudget deskWork deskWitness c ws e in
       let small : (w : Path) → List·Memᴰ w ws → Small w = λ w n. (omega (arith, fits w n .short), λ j. omega (arith, fits w n .vertices j)) in (
         subst (λ (h : ℕ). WholePaths h (cellsOf ws ++ rest)) many (cells-whole ws rest small),
         ap (λ (h : ℕ). cellPaths h (cellsOf ws ++ rest)) (sym many) ∙ cells-paths ws rest,
@@ -51,13 +51,13 @@ module _ (ts : Table) (s : SoundTable ts) (q : Place) (m : List·Memᴰ q (place
   unfolding vertexLines
   lines-said e = ap (λ (z : Said.Verdict). gather line (vertexFrames q z)) (sym e)
 
-  shows : (r : Verdict) (wit wit′ : List ℕ) → verdictNumbers r ≡ numbers x → wit′ ≡ witnessAfter x wit → Shown ts q r wit′
+  shows : (r : Verdict) (wit wit′ : List ℕ) → verdictNumbers r ≡ numbers x → wit′ ≡ witnessAfter [] x wit → Shown ts q r wit′
   unfolding shownLines
   shows (Meets c) wit wit′ e w = record { whole = tt; lines = lines-said (says-meets x c e) }
   shows (Misses c n) wit wit′ e w =
       let p = says-misses x c n e in
       let rest = drop (length (cellsOf (p .0))) wit in
-      let is : wit′ ≡ cellsOf (p .0) ++ rest = w ∙ ap (λ (y : Said.Verdict). witnessAfter y wit) (p .1) in
+      let is : wit′ ≡ cellsOf (p .0) ++ rest = w ∙ ap (λ (y : Said.Verdict). witnessAfter [] y wit) (p .1) in
       let show = cells-show c (p .0) rest (p .1) in
       record {
         whole = subst (WholePaths (q .task)) (sym is) (show .0);
@@ -67,7 +67,7 @@ module _ (ts : Table) (s : SoundTable ts) (q : Place) (m : List·Memᴰ q (place
   shows (Refused at) wit wit′ e w = record { whole = tt; lines = lines-said (says-refused x at e) }
 
   pub vertex-shown : {work wit work′ wit′ : List ℕ} {need : ℕ} {r : Verdict} → length work ≡ deskWork → length wit ≡ deskWitness
-      → Answered (judged ts (q .task) (q .vertex) deskBudget (length work) (length wit)) need work wit r work′ wit′ → Shown ts q r wit′
+      → Answered (judged plain ts (q .task) (q .vertex) deskBudget (length work) (length wit)) [] need work wit r work′ wit′ → Shown ts q r wit′
   vertex-shown {work} {wit} {wit′ = wit′} {r = r} a b j =
-      let is = ap₂ (judged ts (q .task) (q .vertex) deskBudget) a b in
-      shows r wit wit′ (j .verdict ∙ ap numbers is) (j .paths ∙ ap (λ (y : Said.Verdict). witnessAfter y wit) is)
+      let is = ap₂ (judged plain ts (q .task) (q .vertex) deskBudget) a b in
+      shows r wit wit′ (j .verdict ∙ ap numbers is) (j .paths ∙ ap (λ (y : Said.Verdict). witnessAfter [] y wit) is)

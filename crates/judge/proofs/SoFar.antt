@@ -6,7 +6,7 @@ use mathlib.Core.List.{List, [], _∷_, map, List·Memᴰ}
 use lib.ListN.{length, length-map}
 use Rattle.meaning.specs.Bounds.{mostTasks, mostVertices, deskWitness}
 use Rattle.meaning.specs.Verdict as Said
-use Rattle.meaning.specs.Verdict.{numbers}
+use Rattle.meaning.specs.Verdict.{numbers, plain}
 use Rattle.meaning.specs.Judge.{judged}
 use Rattle.meaning.specs.Whole.{Place, places, verdictAt, verdicts, countsOf}
 use Rattle.meaning.proofs.Whole.{verdict-at, desk-witness}
@@ -86,7 +86,7 @@ module _ {t : Table} {b work : ℕ} {c : Counts} {q : Place} (k : SoFar t b work
 
     -- a judging with this budget and as many work cells says what the whole table's does
     pub so-far-said : {cells wits : ℕ} → cells ≡ work → wits ≡ deskWitness
-        → judged (tableOf t) (q .task) (q .vertex) b cells wits ≡ verdictAt (tableOf t) b work q
+        → judged plain (tableOf t) (q .task) (q .vertex) b cells wits ≡ verdictAt (tableOf t) b work q
     so-far-said e f = rw (e, f) (sym (verdict-at (tableOf t) b work deskWitness q (desk-witness (tableOf t) (k .held .sound) q so-far-in)))
 
     pub so-far-more : (r : Verdict) {n : Counts} {p : Place} → verdictNumbers r ≡ numbers (verdictAt (tableOf t) b work q)

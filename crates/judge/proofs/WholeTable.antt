@@ -1,13 +1,13 @@
 -- Judging a table's vertices one after the other: the four counts and the work area.
 use mathlib.Core.Path.{_≡_, refl, sym, ap, _∙_}
 use Prim.Native.Nat.{ℕ, _≤_, _<_}
-use mathlib.Core.List.{List, map}
+use mathlib.Core.List.{List, [], map}
 use lib.ListN.{length}
 use Rattle.meaning.specs.Lists.{largest}
 use Rattle.meaning.specs.Bounds.{deskWitness}
 use Rattle.meaning.specs.Table as Meant
 use Rattle.meaning.specs.Verdict as Said
-use Rattle.meaning.specs.Verdict.{numbers}
+use Rattle.meaning.specs.Verdict.{numbers, plain}
 use Rattle.meaning.specs.Areas.{workNeed, zeroed, needUnless}
 use Rattle.meaning.specs.Judge.{judged}
 use Rattle.meaning.specs.Whole.{Place, verdictAt, tableNeed}
@@ -18,7 +18,8 @@ use Rattle.areas.proofs.Fronts.{zeroed-twice}
 use Rattle.counts.specs.declared.Counts.{Counts}
 use Rattle.counts.specs.Inner.{noCounts, oneMore}
 use Rattle.counts.specs.Place.{firstPlace}
-use Rattle.judge.specs.Inner.{Answered, nextIn, TableCounted}
+use Rattle.judge.specs.Inner.{Answered, AnsweredBy, nextIn, TableCounted}
+use Rattle.judge.specs.declared.Lateness.{Lateness}
 use Rattle.judge.proofs.Remaining.{remaining, remaining-first}
 use Rattle.judge.proofs.SoFar.{SoFar, so-far-none, so-far-end, so-far-all, so-far-next, so-far-said, so-far-more}
 
@@ -60,7 +61,7 @@ module _ {t : Table} {b : ℕ} {before now wit : List ℕ} {c : Counts} {q : Pla
 
   module _ (h : q .task < t .n) where
     abbrev said : Said.Verdict
-    said = judged (tableOf t) (q .task) (q .vertex) b (length now) (length wit)
+    said = judged plain (tableOf t) (q .task) (q .vertex) b (length now) (length wit)
 
     abbrev need : ℕ
     need = workNeed (tableOf t) (q .task) (q .vertex)
@@ -68,15 +69,18 @@ module _ {t : Table} {b : ℕ} {before now wit : List ℕ} {c : Counts} {q : Pla
     is-said : said ≡ verdictAt (tableOf t) b (length before) q
     is-said = so-far-said (k .so-far) h (k .same) (k .wits)
 
-    module _ {now′ wit′ : List ℕ} {r : Verdict} (a : Answered said need now wit r now′ wit′) where
+    module _ {now′ wit′ : List ℕ} {tick : ℕ} {r : Lateness} (told : AnsweredBy said [] tick need now wit r now′ wit′) where
+      a : Answered said [] need now wit (r .verdict) now′ wit′
+      a = told .answered
+
       zeroes-own : now′ ≡ zeroed (needAt (tableOf t) b (length before) q) now
       zeroes-own = a .cells ∙ ap (λ (x : Said.Verdict). zeroed (needUnless x need) now) is-said
 
-      pub judged-more : {m : Counts} {p : Place} → length now′ ≡ length now → length wit′ ≡ length wit → m ≡ oneMore c r → p ≡ nextIn (tableOf t) q
+      pub judged-more : {m : Counts} {p : Place} → length now′ ≡ length now → length wit′ ≡ length wit → m ≡ oneMore c (r .verdict) → p ≡ nextIn (tableOf t) q
           → JudgedSoFar t b before now′ wit′ m p
       judged-more x y e f =
           record {
-            so-far = so-far-more (k .so-far) h r (a .verdict ∙ ap numbers is-said) e f;
+            so-far = so-far-more (k .so-far) h (r .verdict) (a .verdict ∙ ap numbers is-said) e f;
             same = x ∙ k .same;
             wits = y ∙ k .wits;
             cells = ap (λ (p : Place). zeroes (remaining (tableOf t) p) now′) f ∙ on;

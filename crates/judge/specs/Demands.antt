@@ -9,11 +9,11 @@ use Rattle.meaning.specs.Table.{Table, higher}
 use Rattle.meaning.specs.Text.{readable, unreadable, read}
 use Rattle.meaning.specs.Paths.{Path}
 use Rattle.meaning.specs.Groups.{P}
-use Rattle.meaning.specs.Verdict.{cellsOf, topOf, deadline}
-use Rattle.meaning.specs.Areas.{written}
+use Rattle.meaning.specs.Verdict.{cellsOf, Asked, plain, latest, ownE, topAt, C}
+use Rattle.meaning.specs.Areas.{workNeed, zeroed, written}
 use Rattle.meaning.specs.Judge.{Row, refusal}
 use Rattle.meaning.specs.Whole.{uncounted, countsOf, verdicts}
-use Rattle.meaning.specs.Demands.{Overloadable, First, C, vertexTotal}
+use Rattle.meaning.specs.Demands.{Overloadable, First, Worst, vertexTotal}
 use Rattle.kinds.specs.declared.RefusedAt.{RefusedAt}
 use Rattle.kinds.specs.declared.Verdict.{Verdict}
 use Rattle.kinds.specs.declared.Verdict.the-variants.{Meets, Misses, Unfinished, Refused}
@@ -22,13 +22,14 @@ use Rattle.counts.specs.declared.Counts.{Counts}
 use Rattle.counts.specs.Counts.{meantCounts, totalOf}
 use Rattle.judge.specs.declared.TableVerdict.{TableVerdict}
 use Rattle.judge.specs.declared.TableVerdict.the-variants as Whole
-use Rattle.judge.specs.Judged.{Judged}
+use Rattle.judge.specs.Judged.{JudgedBy, LatestJudged}
 use Rattle.judge.specs.Whole.{answerOf, TableJudged}
 
 -- ---- a vertex
 
--- A call of `judge`: what it was given, the verdict r, and the areas as it returned. Its promise is all that is known of it.
+-- A call of `judge` or `latest`: what it was asked and given, the verdict r, and the areas as it returned. Its promise is all that is known of it.
 pub record Call : Type 0 where
+  pub asked : Asked
   pub text : List ℕ
   pub i : ℕ
   pub v : ℕ
@@ -38,7 +39,11 @@ pub record Call : Type 0 where
   pub r : Verdict
   pub work′ : List ℕ
   pub wit′ : List ℕ
-  pub promised : Judged text i v b work wit r work′ wit′
+  pub promised : JudgedBy asked text i v b work wit r work′ wit′
+
+-- the number of groups that its rule has to examine
+abbrev pub groups : Call → Table → ℕ
+groups x ts = C (x .asked) ts (x .i) (x .v)
 
 -- a call on a text that means the table ts
 abbrev pub Means : Call → Table → Type 0
@@ -59,17 +64,22 @@ pub record Demand1 : Type 0 where
 -- ""misses" is said only if some legal path from each of those tasks, of any length, together overload every tick up to the deadline [..]. The paths
 -- returned are the first such among document 01's complete paths, in its order. "Meets" is said only if there are none."
 pub record Demand2 : Type 0 where
-  pub misses-only : (x : Call) (ts : Table) → Means x ts → (c n : ℕ) → x .r ≡ Misses c n → Overloadable ts (x .i) (x .v) × (c ≡ C ts (x .i) (x .v))
+  pub misses-only : (x : Call) (ts : Table) → Means x ts → (c n : ℕ) → x .r ≡ Misses c n → Overloadable ts (x .i) (x .v) × (c ≡ groups x ts)
       × ((ws : List Path) × First ts (x .i) (x .v) ws × (x .wit′ ≡ written (cellsOf ws) (x .wit)) × (n ≡ length (cellsOf ws)))
-  pub meets-only : (x : Call) (ts : Table) → Means x ts → (c : ℕ) → x .r ≡ Meets c → (Overloadable ts (x .i) (x .v) → ⊥) × (c ≡ C ts (x .i) (x .v))
-  pub misses-if : (x : Call) (ts : Table) → Means x ts → refusedBy x ts ≡ none → C ts (x .i) (x .v) ≤ x .b → Overloadable ts (x .i) (x .v)
-      → (n : ℕ) × (x .r ≡ Misses (C ts (x .i) (x .v)) n)
-  pub meets-if : (x : Call) (ts : Table) → Means x ts → refusedBy x ts ≡ none → C ts (x .i) (x .v) ≤ x .b → (Overloadable ts (x .i) (x .v) → ⊥) → x .r ≡ Meets (C ts (x .i) (x .v))
+  pub meets-only : (x : Call) (ts : Table) → Means x ts → (c : ℕ) → x .r ≡ Meets c → (Overloadable ts (x .i) (x .v) → ⊥) × (c ≡ groups x ts)
+  pub misses-if : (x : Call) (ts : Table) → Means x ts → refusedBy x ts ≡ none → groups x ts ≤ x .b → Overloadable ts (x .i) (x .v)
+      → (n : ℕ) × (x .r ≡ Misses (groups x ts) n)
+  pub meets-if : (x : Call) (ts : Table) → Means x ts → refusedBy x ts ≡ none → groups x ts ≤ x .b → (Overloadable ts (x .i) (x .v) → ⊥) → x .r ≡ Meets (groups x ts)
 
--- one table and vertex, and a larger budget or larger areas
-pub record Larger (x y : Call) : Type 0 where
+-- on one table and vertex
+pub record SameVertex (x y : Call) : Type 0 where
   pub table : read (y .text) ≡ read (x .text)
   pub vertex : (y .i ≡ x .i) × (y .v ≡ x .v)
+
+-- the same call there, with a larger budget or larger areas
+pub record Larger (x y : Call) : Type 0 where
+  pub asked : y .asked ≡ x .asked
+  pub same : SameVertex x y
   pub budget : x .b ≤ y .b
   pub areas : (length (x .work) ≤ length (y .work)) × (length (x .wit) ≤ length (y .wit))
 
@@ -77,13 +87,49 @@ pub record Larger (x y : Call) : Type 0 where
 -- applies, "unfinished" is given exactly if the budget is below the number of groups that document 01's rule has to examine, and that number is at
 -- most twice the product of the tasks' path counts, less one."
 pub record Demand3 : Type 0 where
-  pub meets-lasts : (x y : Call) → Larger x y → (c : ℕ) → x .r ≡ Meets c → y .r ≡ Meets c
+  pub meets-lasts : (x y : Call) → Larger x y → (c : ℕ) → x .r ≡ Meets c
+      → (y .r ≡ Meets c) × ((ws : List Path) × (x .wit′ ≡ written (cellsOf ws) (x .wit)) × (y .wit′ ≡ written (cellsOf ws) (y .wit)))
   pub misses-lasts : (x y : Call) → Larger x y → (c n : ℕ) → x .r ≡ Misses c n
       → (y .r ≡ Misses c n)
       × ((ws : List Path) × (n ≡ length (cellsOf ws)) × (x .wit′ ≡ written (cellsOf ws) (x .wit)) × (y .wit′ ≡ written (cellsOf ws) (y .wit)))
-  pub unfinished-if : (x : Call) (ts : Table) → Means x ts → refusedBy x ts ≡ none → x .b < C ts (x .i) (x .v) → x .r ≡ Unfinished (x .b)
-  pub unfinished-only : (x : Call) (ts : Table) → Means x ts → (n : ℕ) → x .r ≡ Unfinished n → (n ≡ x .b) × (x .b < C ts (x .i) (x .v))
-  pub few : (text : List ℕ) (ts : Table) → read text ≡ readable ts → (i v : ℕ) → C ts i v ≤ 2 * P (topOf (higher ts i) (deadline ts i v)) - 1
+  pub unfinished-if : (x : Call) (ts : Table) → Means x ts → refusedBy x ts ≡ none → x .b < groups x ts → x .r ≡ Unfinished (x .b)
+  pub unfinished-only : (x : Call) (ts : Table) → Means x ts → (n : ℕ) → x .r ≡ Unfinished n → (n ≡ x .b) × (x .b < groups x ts)
+  pub few : (asked : Asked) (text : List ℕ) (ts : Table) → read text ≡ readable ts → (i v : ℕ) → C asked ts i v ≤ 2 * P (topAt ts i v) - 1
+
+-- "After any of the three verdicts the needed cells, from the front, are zero and the rest unchanged." Of the witness area: "The other verdicts don't touch
+-- it"; wish 1 lets a meets of its own call write there.
+pub record AreasAfter : Type 0 where
+  pub zeros : (x : Call) (ts : Table) → Means x ts → refusedBy x ts ≡ none → x .work′ ≡ zeroed (workNeed ts (x .i) (x .v)) (x .work)
+  pub meets-unchanged : (x : Call) → x .asked ≡ plain → (c : ℕ) → x .r ≡ Meets c → x .wit′ ≡ x .wit
+  pub unfinished-unchanged : (x : Call) (n : ℕ) → x .r ≡ Unfinished n → x .wit′ ≡ x .wit
+
+-- ---- how late is the latest
+
+-- A call of `latest`, with the two numbers beside its verdict. "Budget, areas, refusals and demand 3 read the same over this C": it is a call as above.
+pub record LatestCall : Type 0 where
+  pub call : Call
+  pub asks : call .asked ≡ latest
+  pub finish : ℕ
+  pub cells : ℕ
+  pub promised : LatestJudged (call .text) (call .i) (call .v) (call .b) (call .work) (call .wit)
+      (record { verdict = call .r; finish = finish; cells = cells }) (call .work′) (call .wit′)
+
+-- "a figure beside "meets": the worst finish [..] with the first choice in document 01's order that reaches it, written to the witness area in its layout
+-- (so in this call a meets writes there too; the rest of it is unchanged, and unfinished doesn't touch it) [..]. A vertex that misses gives the old
+-- witness, with this call's C."
+pub record HowLate : Type 0 where
+  pub meets-worst : (x : LatestCall) (ts : Table) → Means (x .call) ts → (c : ℕ) → x .call .r ≡ Meets c → (ws : List Path)
+      × Worst ts (x .call .i) (x .call .v) (x .finish) ws × (x .call .wit′ ≡ written (cellsOf ws) (x .call .wit)) × (x .cells ≡ length (cellsOf ws))
+  pub misses-none : (x : LatestCall) (c n : ℕ) → x .call .r ≡ Misses c n → (x .finish ≡ 0) × (x .cells ≡ n)
+  pub unfinished-none : (x : LatestCall) (n : ℕ) → x .call .r ≡ Unfinished n → (x .finish ≡ 0) × (x .cells ≡ 0)
+  pub refused-none : (x : LatestCall) (at : RefusedAt) → x .call .r ≡ Refused at → (x .finish ≡ 0) × (x .cells ≡ 0)
+  pub meets-lasts : (x y : LatestCall) → Larger (x .call) (y .call) → (c : ℕ) → x .call .r ≡ Meets c → (y .finish ≡ x .finish) × (y .cells ≡ x .cells)
+  pub old-witness : (x y : Call) → SameVertex x y → (c n c′ n′ : ℕ) → x .r ≡ Misses c n → y .r ≡ Misses c′ n′
+      → (n′ ≡ n) × ((ws : List Path) × (x .wit′ ≡ written (cellsOf ws) (x .wit)) × (y .wit′ ≡ written (cellsOf ws) (y .wit)))
+  pub alone : (x : LatestCall) (ts : Table) → Means (x .call) ts → (c : ℕ) → x .call .r ≡ Meets c → higher ts (x .call .i) ≡ []
+      → x .finish ≡ ownE ts (x .call .i) (x .call .v)
+  pub agree : (x y : Call) → SameVertex x y → (c c′ n : ℕ) → x .r ≡ Meets c → y .r ≡ Misses c′ n → ⊥
+  pub more : (text : List ℕ) (ts : Table) → read text ≡ readable ts → (i v : ℕ) → C plain ts i v ≤ C latest ts i v
 
 -- ---- a whole table
 

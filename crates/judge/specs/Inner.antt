@@ -1,17 +1,21 @@
--- What the inner functions promise each other; no promise of `judge`, `judge_table` or `desk_output` rests on it.
+-- What the inner functions promise each other; no promise of `judge`, `latest`, `judge_table` or `desk_output` rests on it.
 use mathlib.Core.Path.{_≡_}
 use Prim.Native.Nat.{ℕ, _<_}
 use mathlib.Core.List.{List}
 use lib.ListN.{length}
 use Rattle.meaning.specs.Lists.{gather}
 use Rattle.meaning.specs.Table.{Table, taskAt}
+use Rattle.meaning.specs.Text.{read, tasksOf}
+use Rattle.meaning.specs.Paths.{Path}
 use Rattle.meaning.specs.Verdict as Said
-use Rattle.meaning.specs.Verdict.{numbers}
-use Rattle.meaning.specs.Areas.{zeroed, workAfter, witnessAfter}
+use Rattle.meaning.specs.Verdict.{numbers, cellsOf, shownPaths, beside, Asked, plain, latest, deadline, worstAt, meetsPaths}
+use Rattle.meaning.specs.Areas.{zeroed, workNeed, workAfter, witnessAfter}
+use Rattle.meaning.specs.Judge.{judged, answer}
 use Rattle.meaning.specs.Whole as Meant
 use Rattle.meaning.specs.Desk.{line, tableFrames}
 use Rattle.kinds.specs.declared.Verdict.{Verdict}
 use Rattle.kinds.specs.Numbers.{verdictNumbers}
+use Rattle.judge.specs.declared.Lateness.{Lateness}
 use Rattle.counts.specs.declared.Counts.{Counts}
 use Rattle.counts.specs.Counts.{meantCounts}
 use Rattle.counts.specs.Place.{nextPlace}
@@ -33,11 +37,33 @@ pub record There (ts : Table) (q : Meant.Place) : Type 0 where
 
 -- ---- a readable table
 
--- the verdict x of a vertex, where `need` work cells are needed
-pub record Answered (x : Said.Verdict) (need : ℕ) (work wit : List ℕ) (r : Verdict) (work′ wit′ : List ℕ) : Type 0 where
+-- where the bar is behind the last group
+abbrev pub lastTick : Asked → Table → ℕ → ℕ → ℕ
+lastTick plain ts i v = deadline ts i v
+lastTick latest ts i v = worstAt ts i v
+
+-- the verdict x of a vertex, where `need` work cells are needed and a meets writes the paths us
+pub record Answered (x : Said.Verdict) (us : List Path) (need : ℕ) (work wit : List ℕ) (r : Verdict) (work′ wit′ : List ℕ) : Type 0 where
   pub verdict : verdictNumbers r ≡ numbers x
   pub cells : work′ ≡ workAfter x need work
-  pub paths : wit′ ≡ witnessAfter x wit
+  pub paths : wit′ ≡ witnessAfter us x wit
+
+-- with the bar's tick t beside a meets
+pub record AnsweredBy (x : Said.Verdict) (us : List Path) (t need : ℕ) (work wit : List ℕ) (r : Lateness) (work′ wit′ : List ℕ) : Type 0 where
+  pub answered : Answered x us need work wit (r .verdict) work′ wit′
+  pub finish : r .finish ≡ beside x t
+  pub written : r .cells ≡ length (cellsOf (shownPaths us x))
+
+-- of vertex v of task i
+abbrev pub VertexJudged : Asked → Table → ℕ → ℕ → ℕ → List ℕ → List ℕ → Lateness → List ℕ → List ℕ → Type 0
+VertexJudged asked ts i v b work wit r work′ wit′ =
+    AnsweredBy (judged asked ts i v b (length work) (length wit)) (meetsPaths asked ts i v) (lastTick asked ts i v) (workNeed ts i v) work wit r work′ wit′
+
+-- of a text
+abbrev pub TextJudged : Asked → List ℕ → ℕ → ℕ → ℕ → List ℕ → List ℕ → Lateness → List ℕ → List ℕ → Type 0
+TextJudged asked text i v b work wit r work′ wit′ =
+    AnsweredBy (answer asked text i v b (length work) (length wit)) (meetsPaths asked (tasksOf (read text)) i v) (lastTick asked (tasksOf (read text)) i v)
+    (workNeed (tasksOf (read text)) i v) work wit r work′ wit′
 
 -- the four counts, and every work cell
 pub record TableCounted (ts : Table) (b : ℕ) (work : List ℕ) (r : Counts) (work′ : List ℕ) : Type 0 where

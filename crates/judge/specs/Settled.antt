@@ -6,7 +6,8 @@ use lib.ListN.{length}
 use Rattle.meaning.specs.Areas.{Wrote}
 use Rattle.kinds.specs.declared.Verdict.{Verdict}
 use Rattle.judge.specs.declared.TableVerdict.{TableVerdict}
-use Rattle.judge.specs.Judged.{Judged}
+use Rattle.judge.specs.declared.Lateness.{Lateness}
+use Rattle.judge.specs.Judged.{Judged, LatestJudged}
 use Rattle.judge.specs.Whole.{TableJudged}
 use Rattle.judge.specs.Desk.{outputInto}
 
@@ -14,6 +15,11 @@ use Rattle.judge.specs.Desk.{outputInto}
 abbrev pub Settled : Type 0
 Settled = (text : List ℕ) (i v b : ℕ) (work wit : List ℕ) (r s : Verdict) (work₁ wit₁ work₂ wit₂ : List ℕ)
     → Judged text i v b work wit r work₁ wit₁ → Judged text i v b work wit s work₂ wit₂ → (r ≡ s) × (work₁ ≡ work₂) × (wit₁ ≡ wit₂)
+
+-- And where the latest finish is asked for, in its numbers too.
+abbrev pub SettledLatest : Type 0
+SettledLatest = (text : List ℕ) (i v b : ℕ) (work wit : List ℕ) (r s : Lateness) (work₁ wit₁ work₂ wit₂ : List ℕ)
+    → LatestJudged text i v b work wit r work₁ wit₁ → LatestJudged text i v b work wit s work₂ wit₂ → (r ≡ s) × (work₁ ≡ work₂) × (wit₁ ≡ wit₂)
 
 -- And of a whole table's, in the counts or the refusal and in every work cell.
 abbrev pub SettledTable : Type 0

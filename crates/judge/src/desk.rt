@@ -30,7 +30,8 @@ pub(crate) fn table_lines(out: &mut [u8], t: Table) -> usize
     while (place.task.0 as usize) < t.n {
         let task = place.task;
         let vertex = place.vertex;
-        let verdict = judge_vertex(t, task, vertex, DESK_BUDGET, &mut work, &mut witness);
+        let told = judge_vertex(t, task, vertex, DESK_BUDGET, false, &mut work, &mut witness);
+        let verdict = told.verdict;
         at = vertex_lines(out, at, task, vertex, verdict, &witness);
         counts = counted(counts, verdict);
         let own = t.tasks[task.0 as usize];

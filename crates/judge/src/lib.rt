@@ -25,7 +25,9 @@ ghost use mathlib.Core.Path.{_≡_};
 ghost use lib.ListN.{length};
 ghost use Rattle.meaning.specs.Bounds.{longestOutput};
 ghost use Rattle.meaning.specs.Areas.{Wrote};
-ghost use Rattle.judge.specs.Judged.{Judged};
+ghost use Rattle.judge.specs.Judged.{Judged, LatestJudged};
+ghost use Rattle.judge.specs.Inner.{TextJudged};
+ghost use Rattle.search.specs.Meant.{askedBy};
 ghost use Rattle.judge.specs.Whole.{TableJudged};
 ghost use Rattle.judge.specs.Desk.{noOutput, outputInto};
 
@@ -33,6 +35,53 @@ ghost use Rattle.judge.specs.Desk.{noOutput, outputInto};
 pub enum TableVerdict {
     Counted(Counts),
     Refused(RefusedAt),
+}
+
+// A verdict, and "how late is the latest?": beside a meets its worst finish, beside any other verdict 0; and how many witness cells were written.
+pub struct Lateness {
+    pub verdict: Verdict,
+    pub finish: u32,
+    pub cells: u32,
+}
+
+// A verdict that wrote no cells, and isn't meets.
+pub(crate) fn alone(verdict: Verdict) -> Lateness
+    ensures { λ r. ⌜ r ≡ record { verdict = verdict; finish = 0; cells = 0 } ⌝ }
+{
+    Lateness {
+        verdict,
+        finish: 0,
+        cells: 0,
+    }
+}
+
+// One vertex of the text's table, and where it is asked for how late its latest is; else the finish beside a meets is its deadline, where the bar was.
+fn judge_text(
+    text: &[u8],
+    task: TaskNumber,
+    vertex: VertexNumber,
+    budget: u32,
+    late: bool,
+    work: &mut [u32],
+    witness: &mut [u16],
+) -> Lateness
+    ensures { λ r. ⌜ TextJudged (askedBy late) (now (text .entry)) (task .0) (vertex .0) budget (now (work .entry)) (now (witness .entry)) r (now (work .exit)) (now (witness .exit)) ⌝ }
+{
+    let reading = read(text);
+    let status = reading.status;
+    let Status::Refused(at) = status else {
+        let table = reading.table;
+        if no_such(task.0, table.n) {
+            return alone(no_such_vertex());
+        }
+        let h = task.0 as usize;
+        let own = table.tasks[h];
+        if no_such(vertex.0, own.nv) {
+            return alone(no_such_vertex());
+        }
+        return judge_vertex(table, task, vertex, budget, late, work, witness);
+    };
+    alone(Verdict::Refused(at))
 }
 
 // One vertex of the text's table. After meets, misses and unfinished the needed work cells are zero; a miss's paths are in the witness area.
@@ -46,21 +95,23 @@ pub fn judge(
 ) -> Verdict
     ensures { λ r. ⌜ Judged (now (text .entry)) (task .0) (vertex .0) budget (now (work .entry)) (now (witness .entry)) r (now (work .exit)) (now (witness .exit)) ⌝ }
 {
-    let reading = read(text);
-    let status = reading.status;
-    let Status::Refused(at) = status else {
-        let table = reading.table;
-        if no_such(task.0, table.n) {
-            return no_such_vertex();
-        }
-        let h = task.0 as usize;
-        let own = table.tasks[h];
-        if no_such(vertex.0, own.nv) {
-            return no_such_vertex();
-        }
-        return judge_vertex(table, task, vertex, budget, work, witness);
-    };
-    Verdict::Refused(at)
+    let told = judge_text(text, task, vertex, budget, false, work, witness);
+    told.verdict
+}
+
+// The same verdict over this call's own C, and how late the latest is: a meets comes with its worst finish, and the first paths that reach it are in the
+// witness area.
+pub fn latest(
+    text: &[u8],
+    task: TaskNumber,
+    vertex: VertexNumber,
+    budget: u32,
+    work: &mut [u32],
+    witness: &mut [u16],
+) -> Lateness
+    ensures { λ r. ⌜ LatestJudged (now (text .entry)) (task .0) (vertex .0) budget (now (work .entry)) (now (witness .entry)) r (now (work .exit)) (now (witness .exit)) ⌝ }
+{
+    judge_text(text, task, vertex, budget, true, work, witness)
 }
 
 // "Judging a whole table first checks the text (1 to 7, nothing changed). [..] Zeroed from the front are as many work cells as the largest need among

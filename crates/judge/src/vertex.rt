@@ -1,6 +1,9 @@
-// "For a vertex judged under the tasks of higher priority": their paths are counted, their stretches filled, the groups walked, a miss's paths written.
+// "For a vertex judged under the tasks of higher priority": their paths are counted, their stretches filled, the groups walked, a miss's paths written, and
+// where the latest finish is asked for a meets's too.
 //
 // The three loops over the higher tasks stand here, where the table is, and a task at a time is handed on: handing a whole table to a function copies it.
+use crate::Lateness;
+use crate::alone;
 use areas::above::none_above;
 use areas::above::with_paths;
 use areas::stretches::fill_stretch;
@@ -10,18 +13,17 @@ use kinds::TaskNumber;
 use kinds::Verdict;
 use kinds::VertexNumber;
 use paths::path_count;
+use search::first_bar;
 use search::search;
+use search::written_paths;
 use sheet::AreaRows;
 use sheet::area_rows;
 use sheet::said;
 use sheet::too_many_paths;
 use table::Table;
-use walk::Ending;
-ghost use lib.ListN.{length};
-ghost use Rattle.meaning.specs.Areas.{workNeed};
-ghost use Rattle.meaning.specs.Judge.{judged};
 ghost use Rattle.table.specs.Inner.{tableOf, Held};
-ghost use Rattle.judge.specs.Inner.{Answered, There};
+ghost use Rattle.search.specs.Meant.{askedBy};
+ghost use Rattle.judge.specs.Inner.{VertexJudged, There};
 
 // "After the text: 8, 9, 10, 11." A vertex of the table: 9 to 11, and then the walk.
 pub(crate) fn judge_vertex(
@@ -29,11 +31,12 @@ pub(crate) fn judge_vertex(
     task: TaskNumber,
     vertex: VertexNumber,
     budget: u32,
+    late: bool,
     work: &mut [u32],
     witness: &mut [u16],
-) -> Verdict
+) -> Lateness
     requires { ⌜ Held t × There (tableOf t) (record { task = task .0; vertex = vertex .0 }) ⌝ }
-    ensures { λ r. ⌜ Answered (judged (tableOf t) (task .0) (vertex .0) budget (length (now (work .entry))) (length (now (witness .entry)))) (workNeed (tableOf t) (task .0) (vertex .0)) (now (work .entry)) (now (witness .entry)) r (now (work .exit)) (now (witness .exit)) ⌝ }
+    ensures { λ r. ⌜ VertexJudged (askedBy late) (tableOf t) (task .0) (vertex .0) budget (now (work .entry)) (now (witness .entry)) r (now (work .exit)) (now (witness .exit)) ⌝ }
 {
     let h = task.0 as usize;
     let own = t.tasks[h];
@@ -46,14 +49,14 @@ pub(crate) fn judge_vertex(
         let paths = path_count(next, job.d, MOST_PATHS + 1);
         if MOST_PATHS < paths {
             let crowded = j as u8;
-            return too_many_paths(TaskNumber(crowded));
+            return alone(too_many_paths(TaskNumber(crowded)));
         }
         above = with_paths(above, j, paths, job.d);
         j += 1;
     }
     let rows = area_rows(above.rows, h, job.d, work.len(), witness.len());
     if let AreaRows::Refused(at) = rows {
-        return Verdict::Refused(at);
+        return alone(Verdict::Refused(at));
     }
     let mut k: usize = 0;
     while k < h {
@@ -63,21 +66,21 @@ pub(crate) fn judge_vertex(
         fill_stretch(work, from, next, paths, job.d);
         k += 1;
     }
-    let walked = search(work, above, h, job.e, job.d, budget);
+    let bar = first_bar(late, job.d);
+    let walked = search(work, above, h, job.e, job.d, bar, budget);
     let ending = walked.ending;
-    match ending {
-        Ending::Meets(_) => said(ending, 0),
-        Ending::Unfinished(_) => said(ending, 0),
-        Ending::Misses(_) => {
-            let places = walked.places;
-            let mut cells: usize = 0;
-            let mut i: usize = 0;
-            while i < h {
-                let next = t.tasks[i];
-                cells = write_place(witness, cells, next, job.d, places[i]);
-                i += 1;
-            }
-            said(ending, cells)
-        }
+    let places = walked.places;
+    let shown = written_paths(late, ending, h);
+    let mut cells: usize = 0;
+    let mut i: usize = 0;
+    while i < shown {
+        let next = t.tasks[i];
+        cells = write_place(witness, cells, next, job.d, places[i]);
+        i += 1;
+    }
+    Lateness {
+        verdict: said(ending, cells),
+        finish: walked.finish,
+        cells: cells as u32,
     }
 }

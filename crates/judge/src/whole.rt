@@ -22,7 +22,8 @@ pub(crate) fn count_verdicts(t: Table, budget: u32, work: &mut [u32]) -> Counts
     while (at.task.0 as usize) < t.n {
         let task = at.task;
         let vertex = at.vertex;
-        let verdict = judge_vertex(t, task, vertex, budget, work, &mut witness);
+        let told = judge_vertex(t, task, vertex, budget, false, work, &mut witness);
+        let verdict = told.verdict;
         counts = counted(counts, verdict);
         let own = t.tasks[task.0 as usize];
         at = next_place(own.nv, at);

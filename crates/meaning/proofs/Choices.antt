@@ -11,12 +11,13 @@ use Rattle.meaning.specs.Lists.{gather, Rising}
 use Rattle.meaning.specs.Table.{Task}
 use Rattle.meaning.specs.Paths.{Path, legal, load, pathsOf, Before}
 use Rattle.meaning.specs.Groups.{choiceLoads, choices}
+use Rattle.meaning.specs.Walk.{full}
 use Rattle.meaning.specs.Verdict.{Listed, loadOf, listed, topOf, pathsIn}
 use Rattle.meaning.specs.Sound.{AllSound}
 use Rattle.meaning.specs.Demands.{EachOf, Completes, loadsAt, ChoiceBefore}
 use Rattle.meaning.proofs.Lists.{both, gather-mem}
 use Rattle.meaning.proofs.Rising.{rising-one, rising-append}
-use Rattle.meaning.proofs.Groups.{In, full}
+use Rattle.meaning.proofs.Groups.{In}
 use Rattle.meaning.proofs.PathsOf.{paths-legal, paths-rising, paths-some, paths-suffice}
 
 -- a legal path of each, of any length

@@ -1,162 +1,184 @@
--- C, as document 01 defines it, is what the recursion over the sides sees.
+-- Counting the groups of one side of the walk, in the walk's order.
+-- Which groups have the walk go below them is any test: document 01's C and that of the latest finish are two of them.
 use mathlib.Core.Path.{_≡_, refl, sym, ap, ap₂, _∙_}
-use Prim.Native.Nat.{ℕ, zero, suc, _+_}
+use Prim.Native.Nat.{ℕ, zero, suc, _+_, _≤_}
 use native.Mathlib.Omega.{arith}
-use mathlib.Core.Bool.{Bool, true, false, true≢false, _&&_, _||_}
+use mathlib.Core.Bool.{Bool, true, false, _&&_, _||_}
 use mathlib.Core.Option.{Option, none, some}
-use mathlib.Core.List.{List, [], _∷_, _++_, map}
+use mathlib.Core.List.{List, [], _∷_, _++_}
 use lib.ListN.{length, length-append}
-use lib.Dec.{T}
-use Rattle.meaning.specs.Lists.{all, those, upTo, sum}
-use Rattle.meaning.specs.Groups.{overloads, single, Placed, groupsFrom, isWitness, count}
-use Rattle.meaning.specs.Walk.{firstChild, secondChild}
+use lib.Dec.{T, ltb}
+use Rattle.meaning.specs.Lists.{all, those, firstThat, upTo}
+use Rattle.meaning.specs.Groups.{choiceOverloads, overloads, single, choices, Spot, Placed, firstSide, secondSide, groupsFrom, isWitness}
+use Rattle.meaning.specs.Walk.{full, heads}
 use Rattle.meaning.proofs.Lists.{and-false}
-use Rattle.meaning.proofs.Firsts.{any, any-append, upTo-in, upTo-out, upTo-all, those-append, noneOf, noneOf-append, none-kept, orElse}
-use Rattle.meaning.proofs.Groups.{first-part, second-part, quiet-child}
-use Rattle.meaning.proofs.Sides.{Sides, unless, sidesFrom, sides-quiet, sides-hit, sides-split, sides-out, put, under, groups-single, groups-split}
+use Rattle.meaning.proofs.Firsts.{orElse, firstThat-append, first-any, none-any, any, any-append, upTo-in, upTo-out, upTo-all, those-append, noneOf}
+use Rattle.meaning.proofs.Firsts.{noneOf-append, none-kept}
+use Rattle.meaning.proofs.Groups.{first-part, second-part, full-child, excess, excess-single, excess-child, split-choices, single-choice, single-finish}
+use Rattle.meaning.proofs.Groups.{choice-late, group-late}
 
-abbrev isSome {ℓ} : {X : Type ℓ} → Option X → Bool
-isSome none = false
-isSome (some x) = true
+-- ---- the list of groups
+
+module _ {X : Type 0} where
+  abbrev pub put : List (Spot X) → Spot X → Placed X
+  put parents p = record { spot = p; parents = parents }
+
+  -- the groups below a group
+  abbrev pub under : ℕ → List (Spot X) → Spot X → List (Placed X)
+  under n parents p = groupsFrom n (p ∷ parents) (firstSide p) ++ groupsFrom n (p ∷ parents) (secondSide p)
+
+  pub groups-single : (n : ℕ) (parents : List (Spot X)) (p : Spot X) → single (p .group) ≡ true → groupsFrom n parents p ≡ put parents p ∷ []
+  groups-single zero parents p q = refl
+  groups-single (suc n) parents p q = rw (q, groupsFrom)
+
+  pub groups-split : (n : ℕ) (parents : List (Spot X)) (p : Spot X) → single (p .group) ≡ false
+      → groupsFrom (suc n) parents p ≡ put parents p ∷ under n parents p
+  groups-split n parents p q = rw (q, groupsFrom)
 
 module _ {X : Type 0} (load : X → ℕ → ℕ) (e d : ℕ) where
-  abbrev ov : List (List X) → Bool
-  ov g = overloads load e d g
+  abbrev co : List X → Bool
+  co c = choiceOverloads load e d c
 
   abbrev isW : Placed X → Bool
   isW q = isWitness load e d q
 
-  not-witness : (parents : List (List (List X))) (g : List (List X)) → ov g ≡ false → isW (put parents g) ≡ false
-  not-witness parents g h = ap (λ (b : Bool). single g && b) h ∙ and-false (single g)
+  -- ---- there is a witness among the groups of a side exactly if a choice there overloads
 
-  -- no witness at or below a group that does not overload
-  quiet : (n : ℕ) (parents : List (List (List X))) (g : List (List X)) → ov g ≡ false → any isW (groupsFrom n parents g) ≡ false
-  quiet zero parents g h = ap (λ (b : Bool). b || false) (not-witness parents g h)
-  quiet (suc n) parents g h = go (quiet n (g ∷ parents) (firstChild g) (quiet-child first-part load e d g h))
-      (quiet n (g ∷ parents) (secondChild g) (quiet-child second-part load e d g h)) (single g) refl
+  single-overloads : (g : List (List X)) → T (full g) → single g ≡ true → overloads load e d g ≡ co (heads g)
+  single-overloads g f q = group-late load e d g ∙ ap (ltb d) (single-finish load e d g f q) ∙ sym (choice-late load e d (heads g))
+
+  one-witness : (n : ℕ) (parents : List (Spot X)) (p : Spot X) → T (full (p .group))
+      → single (p .group) ≡ true → any isW (groupsFrom n parents p) ≡ any co (choices (p .group))
+  one-witness n parents p f q =
+      rw (groups-single n parents p q, single-choice (p .group) f q) (rw q (ap (λ (b : Bool). b || false) (single-overloads (p .group) f q)))
+
+  pub some-witness : (n : ℕ) (parents : List (Spot X)) (p : Spot X) → T (full (p .group))
+      → excess (p .group) ≤ n → any isW (groupsFrom n parents p) ≡ any co (choices (p .group))
+  some-witness zero parents p f x = one-witness zero parents p f (excess-single (p .group) x)
+  some-witness (suc n) parents p f x =
+      go (λ q. some-witness n (p ∷ parents) (firstSide p) (full-child first-part (p .group) f) (omega (arith, excess-child first-part (p .group) q)))
+      (λ q. some-witness n (p ∷ parents) (secondSide p) (full-child second-part (p .group) f) (omega (arith, excess-child second-part (p .group) q)))
+      (single (p .group)) refl
     where
-      go : any isW (groupsFrom n (g ∷ parents) (firstChild g)) ≡ false → any isW (groupsFrom n (g ∷ parents) (secondChild g)) ≡ false
-          → (b : Bool) → single g ≡ b → any isW (groupsFrom (suc n) parents g) ≡ false
-      go l r true q = rw (q, groupsFrom) (ap (λ (b : Bool). b || false) (not-witness parents g h))
+      go : (single (p .group) ≡ false → any isW (groupsFrom n (p ∷ parents) (firstSide p)) ≡ any co (choices (firstSide p .group)))
+          → (single (p .group) ≡ false → any isW (groupsFrom n (p ∷ parents) (secondSide p)) ≡ any co (choices (secondSide p .group)))
+          → (b : Bool) → single (p .group) ≡ b → any isW (groupsFrom (suc n) parents p) ≡ any co (choices (p .group))
+      go l r true q = one-witness (suc n) parents p f q
       go l r false q =
-          rw (q, groupsFrom)
-          (ap (λ (b : Bool). b || any isW (groupsFrom n (g ∷ parents) (firstChild g) ++ groupsFrom n (g ∷ parents) (secondChild g))) (not-witness parents g h)
-          ∙ any-append isW (groupsFrom n (g ∷ parents) (firstChild g)) (groupsFrom n (g ∷ parents) (secondChild g))
-          ∙ ap₂ _||_ l r)
+          rw (groups-split n parents p q)
+          (rw q (any-append isW (groupsFrom n (p ∷ parents) (firstSide p)) (groupsFrom n (p ∷ parents) (secondSide p)) ∙ ap₂ _||_ (l q) (r q)
+          ∙ sym (any-append co (choices (firstSide p .group)) (choices (secondSide p .group))) ∙ ap (any co) (split-choices (p .group) q)))
 
-  -- something is found exactly where there is a witness
-  some-or : (a b : Option (List X)) → isSome (orElse a b) ≡ (isSome a || isSome b)
-  some-or (some x) b = refl
-  some-or none b = refl
+  module _ (test : Spot X → Bool) where
+    abbrev below : Placed X → Bool
+    below q = all test (q .parents)
 
-  finds : (n : ℕ) (parents : List (List (List X))) (g : List (List X)) → any isW (groupsFrom n parents g) ≡ isSome (sidesFrom load e d n g .found)
-  finds zero parents g = go (ov g) refl (single g) refl
-    where
-      go : (b : Bool) → ov g ≡ b → (c : Bool) → single g ≡ c → any isW (groupsFrom zero parents g) ≡ isSome (sidesFrom load e d zero g .found)
-      go false h c q = quiet zero parents g h ∙ rw (sides-quiet load e d zero g h)
-      go true h true q = rw (sides-hit load e d zero g h q) (rw (q, h))
-      go true h false q = rw (sides-out load e d g q) (rw q)
-  finds (suc n) parents g = go (finds n (g ∷ parents) (firstChild g)) (finds n (g ∷ parents) (secondChild g)) (ov g) refl (single g) refl
-    where
-      go : any isW (groupsFrom n (g ∷ parents) (firstChild g)) ≡ isSome (sidesFrom load e d n (firstChild g) .found)
-          → any isW (groupsFrom n (g ∷ parents) (secondChild g)) ≡ isSome (sidesFrom load e d n (secondChild g) .found)
-          → (b : Bool) → ov g ≡ b → (c : Bool) → single g ≡ c → any isW (groupsFrom (suc n) parents g) ≡ isSome (sidesFrom load e d (suc n) g .found)
-      go l r false h c q = quiet (suc n) parents g h ∙ rw (sides-quiet load e d (suc n) g h)
-      go l r true h true q = rw (sides-hit load e d (suc n) g h q, groups-single (suc n) parents g q) (rw (q, h))
-      go l r true h false q =
-          rw (sides-split load e d n g h q, groups-split n parents g q)
-          (rw q (any-append isW (groupsFrom n (g ∷ parents) (firstChild g)) (groupsFrom n (g ∷ parents) (secondChild g)) ∙ ap₂ _||_ l r
-          ∙ sym (some-or (sidesFrom load e d n (firstChild g) .found) (sidesFrom load e d n (secondChild g) .found))))
+    -- how many of a list are counted
+    abbrev pub kept : List (Placed X) → ℕ
+    kept qs = length (those below (upTo isW qs))
 
-  -- ---- what is below a group that does not overload is not counted
+    -- a group whose parents pass the test is counted itself
+    kept-first : (parents : List (Spot X)) (p : Spot X) (qs : List (Placed X)) → all test parents ≡ true → 1 ≤ kept (put parents p ∷ qs)
+    kept-first parents p qs k = go (isW (put parents p)) refl
+      where
+        go : (b : Bool) → isW (put parents p) ≡ b → 1 ≤ kept (put parents p ∷ qs)
+        go true q = rw (q, upTo) (rw k (omega arith))
+        go false q = rw (q, upTo) (rw k (omega arith))
 
-  abbrev reached : Placed X → Bool
-  reached q = all ov (q .parents)
+    pub kept-some : (n : ℕ) (parents : List (Spot X)) (p : Spot X) → all test parents ≡ true → 1 ≤ kept (groupsFrom n parents p)
+    kept-some zero parents p k = kept-first parents p [] k
+    kept-some (suc n) parents p k = go (single (p .group)) refl
+      where
+        go : (b : Bool) → single (p .group) ≡ b → 1 ≤ kept (groupsFrom (suc n) parents p)
+        go true q = rw (groups-single (suc n) parents p q) (kept-first parents p [] k)
+        go false q = rw (groups-split n parents p q) (kept-first parents p (under n parents p) k)
 
-  blocked : (n : ℕ) (parents : List (List (List X))) (g : List (List X)) → all ov parents ≡ false → T (noneOf reached (groupsFrom n parents g))
-  blocked zero parents g h = rw h tt
-  blocked (suc n) parents g h =
-      let k : all ov (g ∷ parents) ≡ false = ap (λ (b : Bool). ov g && b) h ∙ and-false (ov g) in
-      go (blocked n (g ∷ parents) (firstChild g) k) (blocked n (g ∷ parents) (secondChild g) k) (single g) refl
-    where
-      go : T (noneOf reached (groupsFrom n (g ∷ parents) (firstChild g))) → T (noneOf reached (groupsFrom n (g ∷ parents) (secondChild g)))
-          → (b : Bool) → single g ≡ b → T (noneOf reached (groupsFrom (suc n) parents g))
-      go l r true q = rw (groups-single (suc n) parents g q) (rw h tt)
-      go l r false q = rw (groups-split n parents g q)
-          (rw h (noneOf-append reached (groupsFrom n (g ∷ parents) (firstChild g)) (groupsFrom n (g ∷ parents) (secondChild g)) l r))
+    pub kept-single : (n : ℕ) (parents : List (Spot X)) (p : Spot X) → all test parents ≡ true → single (p .group) ≡ true → kept (groupsFrom n parents p) ≡ 1
+    kept-single n parents p k q = rw (groups-single n parents p q) (go (isW (put parents p)) refl)
+      where
+        go : (b : Bool) → isW (put parents p) ≡ b → kept (put parents p ∷ []) ≡ 1
+        go true r = rw (r, upTo) (rw k)
+        go false r = rw (r, upTo) (rw k)
 
-  -- ---- the count is what the recursion sees
+    pub kept-split : (n : ℕ) (parents : List (Spot X)) (p : Spot X) → all test parents ≡ true
+        → single (p .group) ≡ false → kept (groupsFrom (suc n) parents p) ≡ suc (kept (under n parents p))
+    kept-split n parents p k q =
+        let r : isW (put parents p) ≡ false = ap (λ (b : Bool). b && overloads load e d (p .group)) q in
+        rw (groups-split n parents p q) (rw (r, upTo) (rw k))
 
-  abbrev counted : List (Placed X) → ℕ
-  counted qs = length (those reached (upTo isW qs))
+    -- nothing is counted below a group that fails the test
+    blocked : (n : ℕ) (parents : List (Spot X)) (p : Spot X) → all test parents ≡ false → T (noneOf below (groupsFrom n parents p))
+    blocked zero parents p h = rw h tt
+    blocked (suc n) parents p h =
+        let k : all test (p ∷ parents) ≡ false = ap (λ (b : Bool). test p && b) h ∙ and-false (test p) in
+        go (blocked n (p ∷ parents) (firstSide p) k) (blocked n (p ∷ parents) (secondSide p) k) (single (p .group)) refl
+      where
+        go : T (noneOf below (groupsFrom n (p ∷ parents) (firstSide p))) → T (noneOf below (groupsFrom n (p ∷ parents) (secondSide p)))
+            → (b : Bool) → single (p .group) ≡ b → T (noneOf below (groupsFrom (suc n) parents p))
+        go l r true q = rw (groups-single (suc n) parents p q) (rw h tt)
+        go l r false q = rw (groups-split n parents p q)
+            (rw h (noneOf-append below (groupsFrom n (p ∷ parents) (firstSide p)) (groupsFrom n (p ∷ parents) (secondSide p)) l r))
 
-  counted-one : (parents : List (List (List X))) (g : List (List X)) → all ov parents ≡ true → counted (put parents g ∷ []) ≡ 1
-  counted-one parents g k = go (isW (put parents g)) refl
-    where
-      go : (b : Bool) → isW (put parents g) ≡ b → counted (put parents g ∷ []) ≡ 1
-      go true q = rw (q, upTo) (rw k)
-      go false q = rw (q, upTo) (rw k)
+    pub kept-blocked : (n : ℕ) (parents : List (Spot X)) (p : Spot X) → test p ≡ false → kept (under n parents p) ≡ 0
+    kept-blocked n parents p h =
+        let k : all test (p ∷ parents) ≡ false = ap (λ (b : Bool). b && all test parents) h in
+        none-kept below isW (under n parents p)
+        (noneOf-append below (groupsFrom n (p ∷ parents) (firstSide p)) (groupsFrom n (p ∷ parents) (secondSide p))
+        (blocked n (p ∷ parents) (firstSide p) k) (blocked n (p ∷ parents) (secondSide p) k))
 
-  counted-on : (parents : List (List (List X))) (g : List (List X)) (qs : List (Placed X))
-      → all ov parents ≡ true → isW (put parents g) ≡ false → counted (put parents g ∷ qs) ≡ suc (counted qs)
-  counted-on parents g qs k q = rw (q, upTo) (rw k)
+    -- two sides, one after the other: the second is not seen where the first has the witness
+    pub kept-found : (ls rs : List (Placed X)) → any isW ls ≡ true → kept (ls ++ rs) ≡ kept ls
+    kept-found ls rs q = ap (λ (qs : List (Placed X)). length (those below qs)) (upTo-in isW ls rs q)
 
-  unless-some : (a : Option (List X)) (n : ℕ) → isSome a ≡ true → unless a n ≡ 0
-  unless-some (some x) n h = refl
-  unless-some none n h = absurd (true≢false (sym h))
+    pub kept-both : (ls rs : List (Placed X)) → any isW ls ≡ false → kept (ls ++ rs) ≡ kept ls + kept rs
+    kept-both ls rs q =
+        ap (λ (qs : List (Placed X)). length (those below qs)) (upTo-out isW ls rs q)
+        ∙ ap length (those-append below ls (upTo isW rs)) ∙ length-append (those below ls) (those below (upTo isW rs))
+        ∙ ap (λ (qs : List (Placed X)). length (those below qs) + kept rs) (sym (upTo-all isW ls q))
 
-  unless-none : (a : Option (List X)) (n : ℕ) → isSome a ≡ false → unless a n ≡ n
-  unless-none (some x) n h = absurd (true≢false h)
-  unless-none none n h = refl
+  -- ---- a test that holds of more groups counts no fewer
 
-  -- two sides, one after the other
-  counted-sides : (ls rs : List (Placed X)) (a b : Sides X) → any isW ls ≡ isSome (a .found) → counted ls ≡ a .seen → counted rs ≡ b .seen
-      → counted (ls ++ rs) ≡ a .seen + unless (a .found) (b .seen)
-  counted-sides ls rs a b f l r = go (any isW ls) refl
-    where
-      go : (c : Bool) → any isW ls ≡ c → counted (ls ++ rs) ≡ a .seen + unless (a .found) (b .seen)
-      go true q =
-          ap (λ (qs : List (Placed X)). length (those reached qs)) (upTo-in isW ls rs q)
-          ∙ omega (arith, l, unless-some (a .found) (b .seen) (sym f ∙ q))
-      go false q =
-          let whole : upTo isW ls ≡ ls = upTo-all isW ls q in
-          let l′ : length (those reached ls) ≡ a .seen = ap (λ (qs : List (Placed X)). length (those reached qs)) (sym whole) ∙ l in
-          ap (λ (qs : List (Placed X)). length (those reached qs)) (upTo-out isW ls rs q)
-          ∙ ap length (those-append reached ls (upTo isW rs)) ∙ length-append (those reached ls) (those reached (upTo isW rs))
-          ∙ omega (arith, l′, r, unless-none (a .found) (b .seen) (sym f ∙ q))
+  module _ (small large : Spot X → Bool) (more : (p : Spot X) → firstThat co (p .before) ≡ none → small p ≡ true → large p ≡ true) where
+    pub kept-more : (n : ℕ) (parents : List (Spot X)) (p : Spot X) → T (full (p .group)) → excess (p .group) ≤ n → firstThat co (p .before) ≡ none
+        → all small parents ≡ true → all large parents ≡ true → kept small (groupsFrom n parents p) ≤ kept large (groupsFrom n parents p)
+    kept-more zero parents p f x o a b =
+        let q = excess-single (p .group) x in
+        omega (arith, kept-single small zero parents p a q, kept-single large zero parents p b q)
+    kept-more (suc n) parents p f x o a b =
+        go (λ q. kept-more n (p ∷ parents) (firstSide p) (full-child first-part (p .group) f) (omega (arith, excess-child first-part (p .group) q)) o)
+        (λ q. kept-more n (p ∷ parents) (secondSide p) (full-child second-part (p .group) f) (omega (arith, excess-child second-part (p .group) q)))
+        (single (p .group)) refl (small p) refl
+      where
+        first : List (Placed X)
+        first = groupsFrom n (p ∷ parents) (firstSide p)
 
-  sees : (n : ℕ) (parents : List (List (List X))) (g : List (List X)) → all ov parents ≡ true → counted (groupsFrom n parents g) ≡ sidesFrom load e d n g .seen
-  sees zero parents g k = counted-one parents g k ∙ go (ov g) refl (single g) refl
-    where
-      go : (b : Bool) → ov g ≡ b → (c : Bool) → single g ≡ c → 1 ≡ sidesFrom load e d zero g .seen
-      go false h c q = rw (sides-quiet load e d zero g h)
-      go true h true q = rw (sides-hit load e d zero g h q)
-      go true h false q = rw (sides-out load e d g q)
-  sees (suc n) parents g k = go (λ m. sees n (g ∷ parents) (firstChild g) m) (λ m. sees n (g ∷ parents) (secondChild g) m) (ov g) refl (single g) refl
-    where
-      go : (all ov (g ∷ parents) ≡ true → counted (groupsFrom n (g ∷ parents) (firstChild g)) ≡ sidesFrom load e d n (firstChild g) .seen)
-          → (all ov (g ∷ parents) ≡ true → counted (groupsFrom n (g ∷ parents) (secondChild g)) ≡ sidesFrom load e d n (secondChild g) .seen)
-          → (b : Bool) → ov g ≡ b → (c : Bool) → single g ≡ c → counted (groupsFrom (suc n) parents g) ≡ sidesFrom load e d (suc n) g .seen
-      go l r false h true q = rw (groups-single (suc n) parents g q, sides-quiet load e d (suc n) g h) (counted-one parents g k)
-      go l r false h false q =
-          let m : all ov (g ∷ parents) ≡ false = ap (λ (b : Bool). b && all ov parents) h in
-          rw (groups-split n parents g q, sides-quiet load e d (suc n) g h)
-          (counted-on parents g (under n parents g) k (not-witness parents g h)
-          ∙ ap suc (none-kept reached isW (under n parents g)
-          (noneOf-append reached (groupsFrom n (g ∷ parents) (firstChild g)) (groupsFrom n (g ∷ parents) (secondChild g))
-          (blocked n (g ∷ parents) (firstChild g) m) (blocked n (g ∷ parents) (secondChild g) m))))
-      go l r true h true q = rw (groups-single (suc n) parents g q, sides-hit load e d (suc n) g h q) (counted-one parents g k)
-      go l r true h false q =
-          let m : all ov (g ∷ parents) ≡ true = ap (λ (b : Bool). b && all ov parents) h ∙ k in
-          rw (groups-split n parents g q, sides-split load e d n g h q)
-          (counted-on parents g (under n parents g) k (ap (λ (b : Bool). b && ov g) q)
-          ∙ omega (
-            arith,
-            counted-sides (groupsFrom n (g ∷ parents) (firstChild g)) (groupsFrom n (g ∷ parents) (secondChild g))
-                (sidesFrom load e d n (firstChild g)) (sidesFrom load e d n (secondChild g)) (finds n (g ∷ parents) (firstChild g)) (l m) (r m),
-          ))
+        second : List (Placed X)
+        second = groupsFrom n (p ∷ parents) (secondSide p)
 
-  -- C is what the recursion sees
-  pub count-sides : (top : List (List X)) → count load e d top ≡ sidesFrom load e d (sum (map length top)) top .seen
-  unfolding count
-  count-sides top = sees (sum (map length top)) [] top refl
+        ls : List (List X)
+        ls = choices (firstSide p .group)
+
+        seen : single (p .group) ≡ false → any isW first ≡ any co ls
+        seen q = some-witness n (p ∷ parents) (firstSide p) (full-child first-part (p .group) f) (omega (arith, excess-child first-part (p .group) q))
+
+        sides : single (p .group) ≡ false → kept small first ≤ kept large first
+            → (firstThat co (secondSide p .before) ≡ none → kept small second ≤ kept large second)
+            → (z : Option (List X)) → firstThat co ls ≡ z → kept small (first ++ second) ≤ kept large (first ++ second)
+        sides q l r (some w) z =
+            let y = seen q ∙ first-any co ls z in
+            omega (arith, kept-found small first second y, kept-found large first second y)
+        sides q l r none z =
+            let y = seen q ∙ none-any co ls z in
+            omega (arith, kept-both small first second y, kept-both large first second y, r (firstThat-append co (p .before) ls ∙ ap₂ orElse o z))
+
+        go : (single (p .group) ≡ false → all small (p ∷ parents) ≡ true → all large (p ∷ parents) ≡ true → kept small first ≤ kept large first)
+            → (single (p .group) ≡ false → firstThat co (secondSide p .before) ≡ none → all small (p ∷ parents) ≡ true
+            → all large (p ∷ parents) ≡ true → kept small second ≤ kept large second)
+            → (u : Bool) → single (p .group) ≡ u → (w : Bool) → small p ≡ w
+            → kept small (groupsFrom (suc n) parents p) ≤ kept large (groupsFrom (suc n) parents p)
+        go l r true q w h = omega (arith, kept-single small (suc n) parents p a q, kept-single large (suc n) parents p b q)
+        go l r false q false h = omega (arith, kept-split small n parents p a q, kept-blocked small n parents p h, kept-some large (suc n) parents p b)
+        go l r false q true h =
+            let i = ap₂ _&&_ h a in
+            let j = ap₂ _&&_ (more p o h) b in
+            omega (arith, kept-split small n parents p a q, kept-split large n parents p b q, sides q (l q i j) (λ z. r q z i j) (firstThat co ls) refl)

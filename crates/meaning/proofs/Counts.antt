@@ -14,7 +14,7 @@ use Rattle.meaning.specs.Lists.{pick, those, below}
 use Rattle.meaning.specs.Bounds.{mostTasks, mostVertices}
 use Rattle.meaning.specs.Table.{Task, Table, higher}
 use Rattle.meaning.specs.Groups.{count, witness}
-use Rattle.meaning.specs.Verdict.{Verdict, meets, misses, unfinished, refused, Listed, loadOf, topOf, kindOf, decided, walked, ownE, deadline}
+use Rattle.meaning.specs.Verdict.{Verdict, meets, misses, unfinished, refused, Listed, loadOf, topOf, kindOf, decided, walked, ownE, deadline, plain}
 use Rattle.meaning.specs.Areas.{witnessNeed}
 use Rattle.meaning.specs.Judge.{Row, refusal, unlessRefused, judged}
 use Rattle.meaning.specs.Whole.{Place, placesFrom, places, verdictAt, verdicts, ofKind, countsOf}
@@ -74,7 +74,7 @@ kept-unless : (o : Option Row) (x y : Verdict) → Kept x y → Kept (unlessRefu
 kept-unless none x y k = k
 kept-unless (some r) x y k = refl
 
-kept-walked : (ks : List Task) (e d b b′ : ℕ) → b ≤ b′ → Kept (walked b ks e d) (walked b′ ks e d)
+kept-walked : (ks : List Task) (e d b b′ : ℕ) → b ≤ b′ → Kept (walked plain b ks e d) (walked plain b′ ks e d)
 unfolding walked
 kept-walked ks e d b b′ h = kept-budgeted b b′ (count loadOf e d (topOf ks d)) (witness loadOf e d (topOf ks d)) h
 
@@ -82,7 +82,7 @@ kept-at : (ts : Table) (work : ℕ) (q : Place) (b b′ : ℕ) → b ≤ b′ �
 unfolding judged
 kept-at ts work q b b′ h =
     kept-unless (refusal ts (q .task) (q .vertex) work (witnessNeed ts (q .task) (q .vertex)))
-    (walkedAt ts (q .task) (q .vertex) b) (walkedAt ts (q .task) (q .vertex) b′)
+    (walkedAt plain ts (q .task) (q .vertex) b) (walkedAt plain ts (q .task) (q .vertex) b′)
     (kept-walked (higher ts (q .task)) (ownE ts (q .task) (q .vertex)) (deadline ts (q .task) (q .vertex)) b b′ h)
 
 -- so a verdict of any other kind stays of its kind

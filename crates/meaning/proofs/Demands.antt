@@ -5,7 +5,7 @@ use mathlib.Core.List.{List}
 use Rattle.meaning.specs.Table.{Task}
 use Rattle.meaning.specs.Paths.{pathsOf}
 use Rattle.meaning.specs.Sound.{SoundTask, ReadableSound}
-use Rattle.meaning.specs.Walk.{WalkSees}
+use Rattle.meaning.specs.Walk.{WalkSees, OverloadsLate, ChoicesBefore}
 use Rattle.meaning.specs.Demands.{Readable, PathsSuffice, PathsListed, NineOrTen}
 use Rattle.meaning.specs.Text.{unreadable, read}
 use Rattle.meaning.proofs.Readable.{InText, read-sound, read-refused}
@@ -14,7 +14,9 @@ use Rattle.meaning.proofs.PathsOf as PathsOf
 use Rattle.meaning.proofs.PathOrder.{rising-complete}
 use Rattle.meaning.proofs.Complete.{listed-exactly, listed-short}
 use Rattle.meaning.proofs.Whole as Whole
-use Rattle.meaning.proofs.Run.{run-top, run-top-short}
+use Rattle.meaning.proofs.Groups.{group-late, choice-late}
+use Rattle.meaning.proofs.Walks as Walks
+use Rattle.meaning.proofs.Spots.{all-order}
 
 -- every readable table keeps the bounds
 pub readable-sound : ReadableSound
@@ -44,4 +46,10 @@ pub nine-or-ten : NineOrTen
 nine-or-ten = Whole.nine-or-ten
 
 pub walk-sees : WalkSees
-walk-sees = record { enough = λ load e d b top f. run-top load e d b top f; short = λ load e d b top. run-top-short load e d b top }
+walk-sees = record { plain = λ load e d. Walks.walk-sees load e d; latest = λ load e d. Walks.late-walk-sees load e d }
+
+pub overloads-late : OverloadsLate
+overloads-late = record { groups = λ load e d g. group-late load e d g; choices = λ load e d c. choice-late load e d c }
+
+pub choices-before : ChoicesBefore
+choices-before X = all-order

@@ -8,11 +8,12 @@ use mathlib.Core.List.{List, [], _∷_, map}
 use lib.ListN.{length, take-append-drop, length-append}
 use lib.Dec.{T, ltb, ltb→lt}
 use Rattle.meaning.specs.Lists.{all, sum}
-use Rattle.meaning.specs.Groups.{overloads, half, firstPart, secondPart, long, single, Placed, groupsFrom, allGroups, isWitness, notAfter, count, P}
-use Rattle.meaning.specs.Walk.{firstChild, secondChild}
+use Rattle.meaning.specs.Groups.{half, firstPart, secondPart, long, single, Spot, Placed, firstSide, secondSide, groupsFrom, allGroups, isWitness}
+use Rattle.meaning.specs.Groups.{notAfter, counted, P}
+use Rattle.meaning.specs.Walk.{firstChild, secondChild, full}
 use Rattle.meaning.proofs.Lists.{both-left, both-right}
 use Rattle.meaning.proofs.Firsts.{those-le, upTo-le}
-use Rattle.meaning.proofs.Groups.{first-part, second-part, full, full-child}
+use Rattle.meaning.proofs.Groups.{first-part, second-part, full-child}
 
 module _ {X : Type 0} where
   parts-length : (r : List X) → length (firstPart r) + length (secondPart r) ≡ length r
@@ -31,23 +32,25 @@ module _ {X : Type 0} where
       go ih true h = rw h (sym (add-mul (length (firstPart r)) (length (secondPart r)) (P g)) ∙ ap (λ (n : ℕ). n * P g) (parts-length r))
       go ih false h = rw h (sym (mul-add (length r) (P (firstChild g)) (P (secondChild g))) ∙ ap (λ (n : ℕ). length r * n) (ih (rw h at e)))
 
-  groups-P : (n : ℕ) (parents : List (List (List X))) (g : List (List X)) → T (full g) → length (groupsFrom n parents g) + 1 ≤ 2 * P g
-  groups-P zero parents g f = omega (arith, full-P g f)
-  groups-P (suc n) parents g f = go (groups-P n (g ∷ parents) (firstChild g) (full-child first-part g f))
-      (groups-P n (g ∷ parents) (secondChild g) (full-child second-part g f)) (single g) refl
+  groups-P : (n : ℕ) (parents : List (Spot X)) (p : Spot X) → T (full (p .group)) → length (groupsFrom n parents p) + 1 ≤ 2 * P (p .group)
+  groups-P zero parents p f = omega (arith, full-P (p .group) f)
+  groups-P (suc n) parents p f =
+      go (groups-P n (p ∷ parents) (firstSide p) (full-child first-part (p .group) f))
+      (groups-P n (p ∷ parents) (secondSide p) (full-child second-part (p .group) f)) (single (p .group)) refl
     where
-      go : length (groupsFrom n (g ∷ parents) (firstChild g)) + 1 ≤ 2 * P (firstChild g)
-          → length (groupsFrom n (g ∷ parents) (secondChild g)) + 1 ≤ 2 * P (secondChild g)
-          → (b : Bool) → single g ≡ b → length (groupsFrom (suc n) parents g) + 1 ≤ 2 * P g
-      go l r true h = rw (h, groupsFrom) (omega (arith, full-P g f))
-      go l r false h = rw (h, groupsFrom) (rw length-append (omega (arith, P-split g h)))
+      go : length (groupsFrom n (p ∷ parents) (firstSide p)) + 1 ≤ 2 * P (firstChild (p .group))
+          → length (groupsFrom n (p ∷ parents) (secondSide p)) + 1 ≤ 2 * P (secondChild (p .group))
+          → (b : Bool) → single (p .group) ≡ b → length (groupsFrom (suc n) parents p) + 1 ≤ 2 * P (p .group)
+      go l r true h = rw (h, groupsFrom) (omega (arith, full-P (p .group) f))
+      go l r false h = rw (h, groupsFrom) (rw length-append (omega (arith, P-split (p .group) h)))
 
-pub count-P : {X : Type 0} (load : X → ℕ → ℕ) (e d : ℕ) (top : List (List X)) → T (full top) → count load e d top ≤ 2 * P top - 1
-unfolding count
-count-P load e d top f =
+-- whatever the test of the parents
+pub counted-P : {X : Type 0} (load : X → ℕ → ℕ) (e d : ℕ) (test : Spot X → Bool) (top : List (List X))
+    → T (full top) → counted load e d test top ≤ 2 * P top - 1
+counted-P load e d test top f =
     omega (
       arith,
-      groups-P (sum (map length top)) [] top f,
+      groups-P (sum (map length top)) [] (record { group = top; before = [] }) f,
       upTo-le (isWitness load e d) (allGroups top),
-      those-le (λ (q : Placed _). all (overloads load e d) (q .parents)) (notAfter load e d top),
+      those-le (λ (q : Placed _). all test (q .parents)) (notAfter load e d top),
     )

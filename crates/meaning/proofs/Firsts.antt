@@ -62,6 +62,31 @@ module _ {Y : Type 0} where
   firstThat-none f [] h = refl
   firstThat-none f (x ∷ xs) h = rw (h x (List·Memᴰ·head refl), firstThat) (firstThat-none f xs (λ y m. h y (List·Memᴰ·tail m)))
 
+  pub first-any : (f : Y → Bool) (xs : List Y) {x : Y} → firstThat f xs ≡ some x → any f xs ≡ true
+  first-any f [] q = absurd (let z : _≡_ {A = ℕ} 0 1 = cc in omega arith)
+  first-any f (y ∷ ys) {x} q = go (λ h. first-any f ys h) (f y) refl
+    where
+      go : (firstThat f ys ≡ some x → any f ys ≡ true) → (b : Bool) → f y ≡ b → any f (y ∷ ys) ≡ true
+      go ih true h = rw h
+      go ih false h = rw h (ih (rw (h, firstThat) at q))
+
+  pub none-any : (f : Y → Bool) (xs : List Y) → firstThat f xs ≡ none → any f xs ≡ false
+  none-any f [] q = refl
+  none-any f (y ∷ ys) q = go (λ h. none-any f ys h) (f y) refl
+    where
+      go : (firstThat f ys ≡ none → any f ys ≡ false) → (b : Bool) → f y ≡ b → any f (y ∷ ys) ≡ false
+      go ih true h = absurd (let e : some y ≡ none = rw (h, firstThat) at q in let z : _≡_ {A = ℕ} 0 1 = cc in omega arith)
+      go ih false h = rw h (ih (rw (h, firstThat) at q))
+
+  pub any-mem : (f : Y → Bool) (xs : List Y) → any f xs ≡ false → {x : Y} → List·Memᴰ x xs → f x ≡ false
+  any-mem f [] q m = absurd (List·Memᴰ·not-nil m)
+  any-mem f (y ∷ ys) q {x} m = go (λ h k. any-mem f ys h k) (f y) refl (List·Memᴰ·cases-cons m)
+    where
+      go : (any f ys ≡ false → List·Memᴰ x ys → f x ≡ false) → (b : Bool) → f y ≡ b → (x ≡ y) ⊎ List·Memᴰ x ys → f x ≡ false
+      go ih true h k = absurd (true≢false (rw h at q))
+      go ih false h (inl k) = ap f k ∙ h
+      go ih false h (inr k) = ih (rw h at q) k
+
   pub those-append : (f : Y → Bool) (xs ys : List Y) → those f (xs ++ ys) ≡ those f xs ++ those f ys
   those-append f [] ys = refl
   those-append f (x ∷ xs) ys = go (those-append f xs ys) (f x)

@@ -1,24 +1,19 @@
--- Groups: an overloading choice makes every group that holds it overload; the children share a group's choices in order.
+-- Groups: a group finishes no earlier than any choice in it; the children share a group's choices in order.
 use mathlib.Core.Path.{_≡_, refl, sym, ap, subst, _∙_}
-use Prim.Native.Nat.{ℕ, zero, suc, _+_, _-_, _≤_, _<_, zero-le}
+use Prim.Native.Nat.{ℕ, zero, suc, _-_, _≤_, _<_, zero-le}
 use native.Mathlib.Nat.{le-refl}
 use native.Mathlib.Omega.{arith}
 use borrow.Author.Tests.{lt-ltb, le-ltb, ltb-true}
-use mathlib.Core.Bool.{Bool, true, false, true≢false}
+use mathlib.Core.Bool.{Bool, true, false, true≢false, not, _&&_}
 use mathlib.Core.List.{List, [], _∷_, _++_, map, append-nil, List·Memᴰ, List·Memᴰ·head, Memᴰ·map, List·Memᴰ·eq-of-singleton, Memᴰ·of-map}
 use lib.ListN.{length, take, drop, take-append-drop, length-take, length-drop}
 use lib.Dec.{T, ltb, ltb→lt, lt→ltb}
-use Rattle.meaning.specs.Lists.{pick, all, gather, ticks, sum}
-use Rattle.meaning.specs.Groups.{exceeds, choiceLoads, choiceOverloads, rangeLoad, groupLoads, overloads, half, firstPart, secondPart, long, single}
-use Rattle.meaning.specs.Groups.{childBy, choices}
-use Rattle.meaning.specs.Walk.{firstChild, secondChild}
-use Rattle.meaning.proofs.Lists.{both, both-left, both-right, is-false, all-mem, mem-all, mem-gather, gather-mem, gather-append, map-append, mem-largest}
-
--- the overload test grows with the loads
-pub exceeds-mono : (e d : ℕ) (f g : ℕ → ℕ) → ((t : ℕ) → f t ≤ g t) → T (exceeds e d f) → T (exceeds e d g)
-exceeds-mono e d f g h p =
-    mem-all (λ (t : ℕ). ltb t (e + g t)) (ticks d)
-    (λ t m. lt→ltb t (e + g t) (omega (arith, h t, ltb→lt t (e + f t) (all-mem (λ (s : ℕ). ltb s (e + f s)) (ticks d) p m))))
+use Rattle.meaning.specs.Lists.{all, gather, sum}
+use Rattle.meaning.specs.Groups.{choiceLoads, choiceOverloads, choiceFinish, rangeLoad, groupLoads, overloads, groupFinish, half, firstPart, secondPart}
+use Rattle.meaning.specs.Groups.{long, single, childBy, choices}
+use Rattle.meaning.specs.Walk.{firstChild, secondChild, full, heads}
+use Rattle.meaning.proofs.Finish.{finish-some, exceeds-late, finish-mono}
+use Rattle.meaning.proofs.Lists.{both, both-left, both-right, is-false, mem-gather, gather-mem, gather-append, map-append, mem-largest}
 
 -- ---- choices in a group
 
@@ -29,6 +24,11 @@ module _ {X : Type 0} where
   In [] (r ∷ g) = ⊥
   In (x ∷ c) [] = ⊥
   In (x ∷ c) (r ∷ g) = List·Memᴰ x r × In c g
+
+  pub full-in : (g : List (List X)) → T (full g) → (c : List X) × In c g
+  full-in [] f = ([], tt)
+  full-in ([] ∷ g) f = absurd f
+  full-in ((x ∷ r) ∷ g) f = let k = full-in g (both-right (ltb 0 (suc (length r))) (full g) f) in (x ∷ k .0, (List·Memᴰ·head refl, k .1))
 
   pub in-choices : (c : List X) (g : List (List X)) → In c g → List·Memᴰ c (choices g)
   in-choices [] [] p = List·Memᴰ·head refl
@@ -56,13 +56,58 @@ module _ {X : Type 0} (load : X → ℕ → ℕ) where
   in-le (x ∷ c) [] t p = absurd p
   in-le (x ∷ c) (r ∷ g) t p = omega (arith, range-mem r t (p .0), in-le c g t (p .1))
 
-  -- an overloading choice makes every group that holds it overload
+  -- to overload is to finish later than d
+  pub choice-late : (e d : ℕ) (c : List X) → choiceOverloads load e d c ≡ ltb d (choiceFinish load e d c)
+  unfolding choiceOverloads choiceFinish
+  choice-late e d c = exceeds-late e d (choiceLoads load c)
+
+  pub group-late : (e d : ℕ) (g : List (List X)) → overloads load e d g ≡ ltb d (groupFinish load e d g)
+  unfolding overloads groupFinish
+  group-late e d g = exceeds-late e d (groupLoads load g)
+
+  pub choice-finishes : (e d : ℕ) (c : List X) → 1 ≤ choiceFinish load e d c
+  unfolding choiceFinish
+  choice-finishes e d c = finish-some e d (choiceLoads load c)
+
+  pub group-finishes : (e d : ℕ) (g : List (List X)) → 1 ≤ groupFinish load e d g
+  unfolding groupFinish
+  group-finishes e d g = finish-some e d (groupLoads load g)
+
+  -- a group finishes no earlier than any choice in it
+  pub in-finish : (e d : ℕ) (c : List X) (g : List (List X)) → In c g → choiceFinish load e d c ≤ groupFinish load e d g
+  unfolding choiceFinish groupFinish
+  in-finish e d c g p = finish-mono e d (choiceLoads load c) (groupLoads load g) (λ t a b. in-le c g t p)
+
+  -- so an overloading choice makes every group that holds it overload
   pub in-overload : (e d : ℕ) (c : List X) (g : List (List X)) → In c g → T (choiceOverloads load e d c) → T (overloads load e d g)
-  unfolding overloads choiceOverloads
-  in-overload e d c g p = exceeds-mono e d (choiceLoads load c) (groupLoads load g) (λ t. in-le c g t p)
+  in-overload e d c g p t =
+      let l = ltb→lt d (choiceFinish load e d c) (subst T (choice-late e d c) t) in
+      subst T (sym (group-late e d g)) (lt→ltb d (groupFinish load e d g) (omega (arith, in-finish e d c g p)))
 
   pub quiet-choice : (e d : ℕ) (g : List (List X)) → overloads load e d g ≡ false → (c : List X) → In c g → choiceOverloads load e d c ≡ false
   quiet-choice e d g h c p = is-false (choiceOverloads load e d c) (λ t. subst T h (in-overload e d c g p t))
+
+-- ---- a group of single paths has one choice, and finishes with it
+
+module _ {X : Type 0} where
+  pub single-choice : (g : List (List X)) → T (full g) → single g ≡ true → choices g ≡ heads g ∷ []
+  single-choice [] f q = refl
+  single-choice ([] ∷ g) f q = absurd f
+  single-choice ((x ∷ []) ∷ g) f q = rw (single-choice g f q)
+  single-choice ((x ∷ y ∷ r) ∷ g) f q = absurd (true≢false (sym q ∙ ap (λ (b : Bool). not b && single g) (lt-ltb 1 (suc (suc (length r))) (omega arith))))
+
+module _ {X : Type 0} (load : X → ℕ → ℕ) where
+  heads-load : (g : List (List X)) (t : ℕ) → T (full g) → single g ≡ true → groupLoads load g t ≤ choiceLoads load (heads g) t
+  heads-load [] t f q = le-refl 0
+  heads-load ([] ∷ g) t f q = absurd f
+  heads-load ((x ∷ []) ∷ g) t f q = omega (arith, heads-load g t f q)
+  heads-load ((x ∷ y ∷ r) ∷ g) t f q = absurd (true≢false (sym q ∙ ap (λ (b : Bool). not b && single g) (lt-ltb 1 (suc (suc (length r))) (omega arith))))
+
+  pub single-finish : (e d : ℕ) (g : List (List X)) → T (full g) → single g ≡ true → groupFinish load e d g ≡ choiceFinish load e d (heads g)
+  unfolding choiceFinish groupFinish
+  single-finish e d g f q =
+      let p : In (heads g) g = choices-in (heads g) g (rw (single-choice g f q) (List·Memᴰ·head refl)) in
+      omega (arith, in-finish load e d (heads g) g p, finish-mono e d (groupLoads load g) (choiceLoads load (heads g)) (λ t a b. heads-load g t f q))
 
 -- ---- the children's choices are the group's, in order
 
@@ -121,10 +166,6 @@ module _ {X : Type 0} where
         less = λ load r t. drop-le load (half (length r)) r t;
       }
 
-  -- every range has a path
-  abbrev pub full : List (List X) → Bool
-  full g = all (λ (r : List X). ltb 0 (length r)) g
-
   -- how often a group can be split
   abbrev pub excess : List (List X) → ℕ
   excess g = sum (map (λ (r : List X). length r - 1) g)
@@ -154,19 +195,3 @@ module _ {X : Type 0} {part : List X → List X} (p : Part part) where
       go : (single g ≡ false → excess (childBy part g) < excess g) → (b : Bool) → long r ≡ b → excess (childBy part (r ∷ g)) < excess (r ∷ g)
       go ih true h = rw h (omega (arith, p .shorter r h, p .some r h))
       go ih false h = rw h (omega (arith, ih (rw h at e)))
-
-  loads-child : (load : X → ℕ → ℕ) (g : List (List X)) (t : ℕ) → groupLoads load (childBy part g) t ≤ groupLoads load g t
-  loads-child load [] t = le-refl 0
-  loads-child load (r ∷ g) t = go (loads-child load g t) (long r)
-    where
-      go : groupLoads load (childBy part g) t ≤ groupLoads load g t → (b : Bool)
-          → groupLoads load (pick b (part r ∷ g) (r ∷ childBy part g)) t ≤ groupLoads load (r ∷ g) t
-      go ih true = omega (arith, p .less load r t)
-      go ih false = omega arith
-
-  -- a child of a group that does not overload does not overload
-  pub quiet-child : (load : X → ℕ → ℕ) (e d : ℕ) (g : List (List X)) → overloads load e d g ≡ false → overloads load e d (childBy part g) ≡ false
-  unfolding overloads
-  quiet-child load e d g h =
-      is-false (overloads load e d (childBy part g))
-      (λ q. subst T h (exceeds-mono e d (groupLoads load (childBy part g)) (groupLoads load g) (loads-child load g) q))

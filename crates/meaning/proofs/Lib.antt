@@ -10,12 +10,15 @@ pub mod Loads
 pub mod LoadBounds
 pub mod Suffice
 pub mod Firsts
+pub mod Finish
 pub mod Groups
-pub mod Sides
+pub mod Bars
 pub mod Counting
 pub mod Few
-pub mod Witness
+pub mod Steps
 pub mod Run
+pub mod Walks
+pub mod Spots
 pub mod PathsOf
 pub mod Choices
 pub mod Refusals
@@ -24,6 +27,7 @@ pub mod Readable
 pub mod LongestText
 pub mod FaultyLine
 pub mod Answers
+pub mod Latest
 pub mod Counts
 pub mod MissPaths
 pub mod Whole

@@ -10,10 +10,10 @@ use lib.Dec.{T, ltb, ltb→lt}
 use Rattle.meaning.specs.Bounds.{mostVertices, largestD}
 use Rattle.meaning.specs.Table.{Task, Table, noTask, noVertex, taskAt, vertexAt, higher}
 use Rattle.meaning.specs.Paths.{Path, between, linked, legal}
-use Rattle.meaning.specs.Verdict.{misses, deadline}
+use Rattle.meaning.specs.Verdict.{misses, Asked, deadline, C}
 use Rattle.meaning.specs.Judge.{judged}
 use Rattle.meaning.specs.Sound.{SoundTask, SoundTable, AllSound}
-use Rattle.meaning.specs.Demands.{First, C, Completes}
+use Rattle.meaning.specs.Demands.{First, Completes}
 use Rattle.meaning.proofs.Lists.{both-left, both-right, mem-getD, those-mem}
 use Rattle.meaning.proofs.Edges.{link-edge}
 use Rattle.meaning.proofs.PathsOf.{paths-legal, paths-short}
@@ -63,11 +63,11 @@ completes-fit d (k ∷ ks) (x ∷ ws) s o c w (List·Memᴰ·tail m) = completes
 -- ---- of a miss
 
 module _ (ts : Table) (s : SoundTable ts) (i v : ℕ) (p : i < length ts) (u : v < length (taskAt ts i .vertices))
-    (b work wit c : ℕ) (ws : List Path) (q : judged ts i v b work wit ≡ misses c ws) where
+    (asked : Asked) (b work wit c : ℕ) (ws : List Path) (q : judged asked ts i v b work wit ≡ misses c ws) where
   first : First ts i v ws
   first =
-      let g = judged-given ts i v b work wit (misses c ws) q tt in
-      let m = decided-misses (C ts i v) (W ts i v) c ws (g .2) in
+      let g = judged-given asked ts i v b work wit (misses c ws) q tt in
+      let m = decided-misses (C asked ts i v) (W ts i v) c ws (g .2) in
       subst (First ts i v) (sym (m .2)) (witness-first ts i v (sound-higher ts i s) (m .0) (m .1))
 
   pub miss-count : length ws ≡ i

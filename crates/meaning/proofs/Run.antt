@@ -1,171 +1,215 @@
--- The run sees C groups and finds the witness, or is cut short exactly if the budget is below C.
+-- A run of the walk from any bar up to d: it sees the groups whose parents each finished later than the bar was there, and ends as if every
+-- choice had been tried in turn; or it is cut short, exactly if the budget is below their number.
 use mathlib.Core.Path.{_≡_, refl, sym, ap, ap₂, _∙_}
-use Prim.Native.Nat.{ℕ, zero, suc, _+_, _≤_, _<_}
-use native.Mathlib.Nat.{le-refl}
+use Prim.Native.Nat.{ℕ, zero, suc, _+_, _-_, _≤_}
 use native.Mathlib.Omega.{arith}
-use mathlib.Core.Bool.{Bool, true, false}
+use mathlib.Core.Bool.{Bool, true, false, _&&_}
 use mathlib.Core.Option.{Option, none, some}
-use mathlib.Core.List.{List, [], _∷_, map}
+use mathlib.Core.List.{List, [], _∷_, _++_, map, append-assoc, List·Memᴰ}
 use lib.ListN.{length}
-use lib.Dec.{T}
-use Rattle.meaning.specs.Lists.{sum}
-use Rattle.meaning.specs.Groups.{overloads, single, count, witness}
-use Rattle.meaning.specs.Walk.{firstChild, secondChild, heads, ended, cut, run}
-use Rattle.meaning.proofs.Firsts.{orElse}
-use Rattle.meaning.proofs.Groups.{first-part, second-part, full, excess, excess-le, excess-single, excess-child}
-use Rattle.meaning.proofs.Sides.{Sides, unless, joined, sidesFrom, sides-quiet, sides-hit, sides-split}
-use Rattle.meaning.proofs.Counting.{count-sides}
-use Rattle.meaning.proofs.Witness.{witness-sides}
+use lib.Dec.{T, ltb}
+use borrow.Author.Tests.{le-ltb, ltb-false}
+use Rattle.meaning.specs.Lists.{all, sum, firstThat}
+use Rattle.meaning.specs.Groups.{choiceOverloads, choiceFinish, groupFinish, single, choices, Spot, Placed, firstSide, secondSide, groupsFrom, isWitness}
+use Rattle.meaning.specs.Groups.{counted}
+use Rattle.meaning.specs.Walk.{firstChild, secondChild, full, heads, Bar, End, endBy, run, Sees}
+use Rattle.meaning.proofs.Firsts.{orElse, any, firstThat-append, firstThat-none, first-hit, first-skip, first-any, none-any, any-mem}
+use Rattle.meaning.proofs.Groups.{choices-in, first-part, second-part, full-child, excess, excess-le, excess-single, excess-child, split-choices}
+use Rattle.meaning.proofs.Groups.{single-choice, single-finish, choice-late, in-finish}
+use Rattle.meaning.proofs.Bars.{risen, not-late, worst-most, risen-append, risen-quiet, risen-tick}
+use Rattle.meaning.proofs.Counting.{kept, kept-some, kept-single, kept-split, kept-blocked, kept-found, kept-both, some-witness}
+use Rattle.meaning.proofs.Steps.{run-quiet, run-split, run-hit, run-raise, onward, onward-out, onward-last, onward-hit, onward-one, onward-found}
+use Rattle.meaning.proofs.Steps.{onward-both}
 
 module _ {X : Type 0} (load : X → ℕ → ℕ) (e d : ℕ) where
-  abbrev ov : List (List X) → Bool
-  ov g = overloads load e d g
+  abbrev fin : List (List X) → ℕ
+  fin g = groupFinish load e d g
 
-  -- more fuel than is needed changes nothing
-  same-fuel : (n m : ℕ) (g : List (List X)) → excess g ≤ n → excess g ≤ m → sidesFrom load e d n g ≡ sidesFrom load e d m g
-  same-fuel zero m g a b = go (ov g) refl
-    where
-      go : (b : Bool) → ov g ≡ b → sidesFrom load e d zero g ≡ sidesFrom load e d m g
-      go true h = sides-hit load e d zero g h (excess-single g a) ∙ sym (sides-hit load e d m g h (excess-single g a))
-      go false h = sides-quiet load e d zero g h ∙ sym (sides-quiet load e d m g h)
-  same-fuel (suc n) zero g a b = go (ov g) refl
-    where
-      go : (c : Bool) → ov g ≡ c → sidesFrom load e d (suc n) g ≡ sidesFrom load e d zero g
-      go true h = sides-hit load e d (suc n) g h (excess-single g b) ∙ sym (sides-hit load e d zero g h (excess-single g b))
-      go false h = sides-quiet load e d (suc n) g h ∙ sym (sides-quiet load e d zero g h)
-  same-fuel (suc n) (suc m) g a b =
-      go (λ q. same-fuel n m (firstChild g) (omega (arith, excess-child first-part g q)) (omega (arith, excess-child first-part g q)))
-      (λ q. same-fuel n m (secondChild g) (omega (arith, excess-child second-part g q)) (omega (arith, excess-child second-part g q)))
-      (ov g) refl (single g) refl
-    where
-      go : (single g ≡ false → sidesFrom load e d n (firstChild g) ≡ sidesFrom load e d m (firstChild g))
-          → (single g ≡ false → sidesFrom load e d n (secondChild g) ≡ sidesFrom load e d m (secondChild g))
-          → (c : Bool) → ov g ≡ c → (s : Bool) → single g ≡ s → sidesFrom load e d (suc n) g ≡ sidesFrom load e d (suc m) g
-      go l r false h s q = sides-quiet load e d (suc n) g h ∙ sym (sides-quiet load e d (suc m) g h)
-      go l r true h true q = sides-hit load e d (suc n) g h q ∙ sym (sides-hit load e d (suc m) g h q)
-      go l r true h false q = sides-split load e d n g h q ∙ ap₂ joined (l q) (r q) ∙ sym (sides-split load e d m g h q)
+  abbrev co : List X → Bool
+  co c = choiceOverloads load e d c
 
-  abbrev whole : List (List X) → Sides X
-  whole g = sidesFrom load e d (excess g) g
+  abbrev Todo : Type 0
+  Todo = List (List (List X))
 
-  -- the groups of a stack, one after the other
-  abbrev stack : List (List (List X)) → Sides X
-  stack [] = record { seen = 0; found = none }
-  stack (g ∷ todo) = record { seen = whole g .seen + unless (whole g .found) (stack todo .seen); found = orElse (whole g .found) (stack todo .found) }
+  -- the test holds of a group exactly if it finishes later than the bar there, as long as there was no witness
+  abbrev pub Agrees : (Spot X → Bool) → Bar X → Type 0
+  Agrees test start = (p : Spot X) → firstThat co (p .before) ≡ none → test p ≡ ltb (risen load e d start (p .before) .tick) (fin (p .group))
 
-  whole-split : (g : List (List X)) → ov g ≡ true → single g ≡ false → whole g ≡ joined (whole (firstChild g)) (whole (secondChild g))
-  whole-split g h q =
-      same-fuel (excess g) (suc (excess g)) g (le-refl _) (omega arith) ∙ sides-split load e d (excess g) g h q
-      ∙ ap₂ joined (same-fuel (excess g) (excess (firstChild g)) (firstChild g) (omega (arith, excess-child first-part g q)) (le-refl _))
-      (same-fuel (excess g) (excess (secondChild g)) (secondChild g) (omega (arith, excess-child second-part g q)) (le-refl _))
+  module _ (test : Spot X → Bool) (start : Bar X) (low : start .tick ≤ d) (agrees : Agrees test start) where
+    abbrev barOf : Spot X → Bar X
+    barOf p = risen load e d start (p .before)
 
-  -- two sides and then the rest, or a side and then the other and the rest
-  regroup-seen : (a b c : Sides X)
-      → joined a b .seen + unless (joined a b .found) (c .seen) ≡ suc (a .seen + unless (a .found) (b .seen + unless (b .found) (c .seen)))
-  regroup-seen a b c = go (a .found)
-    where
-      go : (f : Option (List X)) → 1 + (a .seen + unless f (b .seen)) + unless (orElse f (b .found))
-          (c .seen) ≡ suc (a .seen + unless f (b .seen + unless (b .found) (c .seen)))
-      go (some x) = omega arith
-      go none = omega arith
+    -- what is seen at and below a spot, and where the walk stands behind it, when every choice there has been tried
+    abbrev seen : ℕ → List (Spot X) → Spot X → ℕ
+    seen n parents p = kept load e d test (groupsFrom n parents p)
 
-  regroup-found : (f g h : Option (List X)) → orElse (orElse f g) h ≡ orElse f (orElse g h)
-  regroup-found (some x) g h = refl
-  regroup-found none g h = refl
+    abbrev tried : Spot X → End X
+    tried p = endBy (firstThat co (choices (p .group))) (risen load e d start (p .before ++ choices (p .group)))
 
-  abbrev both-sides : List (List X) → List (List (List X)) → List (List (List X))
-  both-sides g todo = firstChild g ∷ secondChild g ∷ todo
+    tried-by : (p : Spot X) (o : Option (List X)) (s : Bar X) → firstThat co (choices (p .group)) ≡ o
+        → risen load e d start (p .before ++ choices (p .group)) ≡ s → endBy o s ≡ tried p
+    tried-by p o s q r = sym (ap₂ endBy q r)
 
-  split-seen : (g : List (List X)) (todo : List (List (List X))) → ov g ≡ true
-      → single g ≡ false → stack (g ∷ todo) .seen ≡ suc (stack (both-sides g todo) .seen)
-  split-seen g todo h q = rw (whole-split g h q) (regroup-seen (whole (firstChild g)) (whole (secondChild g)) (stack todo))
+    abbrev From : Spot X → ℕ → ℕ → ℕ → Todo → Type 0
+    From p n b c todo = run load e d b (barOf p) (p .group ∷ todo) c ≡ onward load e d b c todo n (tried p)
 
-  split-found : (g : List (List X)) (todo : List (List (List X))) → ov g ≡ true → single g ≡ false → stack (g ∷ todo) .found ≡ stack (both-sides g todo) .found
-  split-found g todo h q = rw (whole-split g h q) (regroup-found (whole (firstChild g) .found) (whole (secondChild g) .found) (stack todo .found))
+    -- ---- a group with nothing examined below it
 
-  quiet-seen : (g : List (List X)) (todo : List (List (List X))) → ov g ≡ false → stack (g ∷ todo) .seen ≡ suc (stack todo .seen)
-  quiet-seen g todo h = rw (sides-quiet load e d (excess g) g h) (omega arith)
+    -- no witness before: the bar is at most d
+    bar-low : (p : Spot X) → firstThat co (p .before) ≡ none → barOf p .tick ≤ d
+    bar-low p o =
+        omega (
+          arith,
+          low,
+          risen-tick load e d start (p .before),
+          worst-most load e d (p .before) d (λ c m. not-late load e d c (any-mem co (p .before) (none-any co (p .before) o) m)),
+        )
 
-  quiet-found : (g : List (List X)) (todo : List (List (List X))) → ov g ≡ false → stack (g ∷ todo) .found ≡ stack todo .found
-  quiet-found g todo h = rw (sides-quiet load e d (excess g) g h)
+    step-quiet : (p : Spot X) (b c : ℕ) (todo : Todo) → firstThat co (p .before) ≡ none → ltb (barOf p .tick) (fin (p .group)) ≡ false → From p 1 (suc b) c todo
+    step-quiet p b c todo o h =
+        run-quiet load e d b c (barOf p) (p .group) todo h ∙ sym (onward-one load e d b c todo (barOf p))
+        ∙ ap (onward load e d (suc b) c todo 1) (tried-by p none (barOf p) (firstThat-none co (choices (p .group)) (λ k m. quiet k (early k m))) same)
+      where
+        early : (k : List X) → List·Memᴰ k (choices (p .group)) → choiceFinish load e d k ≤ barOf p .tick
+        early k m = omega (arith, in-finish load e d k (p .group) (choices-in k (p .group) m), ltb-false (barOf p .tick) (fin (p .group)) h)
 
-  hit-seen : (g : List (List X)) (todo : List (List (List X))) → ov g ≡ true → single g ≡ true → stack (g ∷ todo) .seen ≡ 1
-  hit-seen g todo h q = rw (sides-hit load e d (excess g) g h q)
+        quiet : (k : List X) → choiceFinish load e d k ≤ barOf p .tick → co k ≡ false
+        quiet k l = choice-late load e d k ∙ le-ltb d (choiceFinish load e d k) (omega (arith, bar-low p o))
 
-  hit-found : (g : List (List X)) (todo : List (List (List X))) → ov g ≡ true → single g ≡ true → stack (g ∷ todo) .found ≡ some (heads g)
-  hit-found g todo h q = rw (sides-hit load e d (excess g) g h q)
+        same : risen load e d start (p .before ++ choices (p .group)) ≡ barOf p
+        same = risen-append load e d start (p .before) (choices (p .group)) ∙ risen-quiet load e d (barOf p) (choices (p .group)) early
 
-  -- the run's equations
-  pub run-quiet : (b c : ℕ) (g : List (List X)) (todo : List (List (List X))) → ov g ≡ false → run load e d (suc b) (g ∷ todo) c ≡ run load e d b todo (suc c)
-  run-quiet b c g todo h = rw (h, run)
+    step-single : (p : Spot X) (b c : ℕ) (todo : Todo) → T (full (p .group))
+        → single (p .group) ≡ true → firstThat co (p .before) ≡ none → From p 1 (suc b) c todo
+    step-single p b c todo f q o = go (ltb (barOf p .tick) (fin g)) refl (ltb d (fin g)) refl
+      where
+        g : List (List X)
+        g = p .group
 
-  pub run-hit : (b c : ℕ) (g : List (List X)) (todo : List (List (List X))) → ov g ≡ true
-      → single g ≡ true → run load e d (suc b) (g ∷ todo) c ≡ ended (suc c) (some (heads g))
-  run-hit b c g todo h q = rw (h, run) (rw q)
+        is : co (heads g) ≡ ltb d (fin g)
+        is = choice-late load e d (heads g) ∙ ap (ltb d) (sym (single-finish load e d g f q))
 
-  pub run-split : (b c : ℕ) (g : List (List X)) (todo : List (List (List X))) → ov g ≡ true
-      → single g ≡ false → run load e d (suc b) (g ∷ todo) c ≡ run load e d b (both-sides g todo) (suc c)
-  run-split b c g todo h q = rw (h, run) (rw q)
+        one : firstThat co (choices g) ≡ firstThat co (heads g ∷ [])
+        one = ap (firstThat co) (single-choice g f q)
 
-  -- a group takes one step at least
-  seen-pos : (g : List (List X)) → 1 ≤ whole g .seen
-  seen-pos g = go (ov g) refl (single g) refl
-    where
-      go : (c : Bool) → ov g ≡ c → (s : Bool) → single g ≡ s → 1 ≤ whole g .seen
-      go false h s q = rw (sides-quiet load e d (excess g) g h) (le-refl 1)
-      go true h true q = rw (sides-hit load e d (excess g) g h q) (le-refl 1)
-      go true h false q = rw (whole-split g h q) (omega arith)
+        raises : ltb (barOf p .tick) (fin g) ≡ true → risen load e d start (p .before ++ choices g) ≡ record { tick = fin g; choice = some (heads g) }
+        raises h =
+            ap (λ (cs : List (List X)). risen load e d start (p .before ++ cs)) (single-choice g f q) ∙ risen-append load e d start (p .before) (heads g ∷ [])
+            ∙ rw (← single-finish load e d g f q) (rw h)
 
-  run-enough : (b : ℕ) (todo : List (List (List X))) (c : ℕ) → stack todo .seen ≤ b → run load e d b todo c ≡ ended (c + stack todo .seen) (stack todo .found)
-  run-enough zero [] c h = ap (λ (n : ℕ). ended n none) (omega arith)
-  run-enough zero (g ∷ todo) c h = absurd (omega (arith, seen-pos g))
-  run-enough (suc b) [] c h = ap (λ (n : ℕ). ended n none) (omega arith)
-  run-enough (suc b) (g ∷ todo) c h = go (λ t k. run-enough b t (suc c) k) (ov g) refl (single g) refl
-    where
-      go : ((t : List (List (List X))) → stack t .seen ≤ b → run load e d b t (suc c) ≡ ended (suc c + stack t .seen) (stack t .found))
-          → (v : Bool) → ov g ≡ v → (s : Bool) → single g ≡ s → run load e d (suc b) (g ∷ todo) c ≡ ended (c + stack (g ∷ todo) .seen) (stack (g ∷ todo) .found)
-      go ih false k s q =
-          run-quiet b c g todo k ∙ ih todo (omega (arith, quiet-seen g todo k)) ∙ ap₂ ended (omega (arith, quiet-seen g todo k)) (sym (quiet-found g todo k))
-      go ih true k true q = run-hit b c g todo k q ∙ ap₂ ended (omega (arith, hit-seen g todo k q)) (sym (hit-found g todo k q))
-      go ih true k false q =
-          run-split b c g todo k q ∙ ih (both-sides g todo) (omega (arith, split-seen g todo k q))
-          ∙ ap₂ ended (omega (arith, split-seen g todo k q)) (sym (split-found g todo k q))
+        go : (v : Bool) → ltb (barOf p .tick) (fin g) ≡ v → (w : Bool) → ltb d (fin g) ≡ w → From p 1 (suc b) c todo
+        go false h w k = step-quiet p b c todo o h
+        go true h true k =
+            run-hit load e d b c (barOf p) g todo h q k ∙ sym (onward-hit load e d b c todo (heads g))
+            ∙ ap (onward load e d (suc b) c todo 1) (tried-by p (some (heads g)) _ (one ∙ first-hit co (heads g) [] (is ∙ k)) refl)
+        go true h false k =
+            run-raise load e d b c (barOf p) g todo h q k ∙ sym (onward-one load e d b c todo (record { tick = fin g; choice = some (heads g) }))
+            ∙ ap (onward load e d (suc b) c todo 1) (tried-by p none _ (one ∙ first-skip co (heads g) [] (is ∙ k)) (raises h))
 
-  run-short : (b : ℕ) (todo : List (List (List X))) (c : ℕ) → b < stack todo .seen → run load e d b todo c ≡ cut
-  run-short zero [] c h = absurd (omega arith)
-  run-short zero (g ∷ todo) c h = refl
-  run-short (suc b) [] c h = absurd (omega arith)
-  run-short (suc b) (g ∷ todo) c h = go (λ t k. run-short b t (suc c) k) (ov g) refl (single g) refl
-    where
-      go : ((t : List (List (List X))) → b < stack t .seen → run load e d b t (suc c) ≡ cut)
-          → (v : Bool) → ov g ≡ v → (s : Bool) → single g ≡ s → run load e d (suc b) (g ∷ todo) c ≡ cut
-      go ih false k s q = run-quiet b c g todo k ∙ ih todo (omega (arith, quiet-seen g todo k))
-      go ih true k true q = absurd (omega (arith, hit-seen g todo k q))
-      go ih true k false q = run-split b c g todo k q ∙ ih (both-sides g todo) (omega (arith, split-seen g todo k q))
+    -- ---- a group with its two sides
 
-  -- the whole walk: C and the witness, or cut short exactly if the budget is below C
-  top-seen : (g : List (List X)) → stack (g ∷ []) .seen ≡ count load e d g
-  top-seen g = go (whole g .found) ∙ ap (λ (w : Sides X). w .seen) (same-fuel (excess g) (sum (map length g)) g (le-refl _) (excess-le g))
-      ∙ sym (count-sides load e d g)
-    where
-      go : (f : Option (List X)) → whole g .seen + unless f 0 ≡ whole g .seen
-      go (some x) = omega arith
-      go none = omega arith
+    -- the first side's witness ends the walk; else the second side follows
+    step-split : (n : ℕ) (parents : List (Spot X)) (p : Spot X) (b c : ℕ) (todo : Todo)
+        → T (full (p .group)) → excess (p .group) ≤ suc n → single (p .group) ≡ false
+        → all test parents ≡ true → ltb (barOf p .tick) (fin (p .group)) ≡ true → firstThat co (p .before) ≡ none
+        → ((b c : ℕ) (todo : Todo) → From (firstSide p) (seen n (p ∷ parents) (firstSide p)) b c todo)
+        → (firstThat co (secondSide p .before) ≡ none → (b c : ℕ) (todo : Todo) → From (secondSide p) (seen n (p ∷ parents) (secondSide p)) b c todo)
+        → From p (seen (suc n) parents p) (suc b) c todo
+    step-split n parents p b c todo f x q k h o l r = run-split load e d b c (barOf p) g todo h q
+        ∙ l b (suc c) (secondChild g ∷ todo) ∙ go (firstThat co ls) refl
+      where
+        g : List (List X)
+        g = p .group
 
-  top-found : (g : List (List X)) → T (full g) → stack (g ∷ []) .found ≡ witness load e d g
-  top-found g f = go (whole g .found) ∙ ap (λ (w : Sides X). w .found) (same-fuel (excess g) (sum (map length g)) g (le-refl _) (excess-le g))
-      ∙ sym (witness-sides load e d g f)
-    where
-      go : (o : Option (List X)) → orElse o none ≡ o
-      go (some x) = refl
-      go none = refl
+        ls : List (List X)
+        ls = choices (firstChild g)
 
-  pub run-top : (b : ℕ) (g : List (List X)) → T (full g) → count load e d g ≤ b → run load e d b (g ∷ []) 0 ≡ ended (count load e d g) (witness load e d g)
-  run-top b g f h = run-enough b (g ∷ []) 0 (omega (arith, top-seen g)) ∙ ap₂ ended (omega (arith, top-seen g)) (top-found g f)
+        rs : List (List X)
+        rs = choices (secondChild g)
 
-  pub run-top-short : (b : ℕ) (g : List (List X)) → b < count load e d g → run load e d b (g ∷ []) 0 ≡ cut
-  run-top-short b g h = run-short b (g ∷ []) 0 (omega (arith, top-seen g))
+        first : List (Placed X)
+        first = groupsFrom n (p ∷ parents) (firstSide p)
 
-  -- the top group itself is seen
-  pub count-some : (g : List (List X)) → 1 ≤ count load e d g
-  count-some g = omega (arith, top-seen g, seen-pos g)
+        second : List (Placed X)
+        second = groupsFrom n (p ∷ parents) (secondSide p)
+
+        has : any (isWitness load e d) first ≡ any co ls
+        has = some-witness load e d n (p ∷ parents) (firstSide p) (full-child first-part g f) (omega (arith, excess-child first-part g q))
+
+        found : (z : Option (List X)) → firstThat co ls ≡ z → firstThat co (choices g) ≡ orElse z (firstThat co rs)
+        found z y = ap (firstThat co) (sym (split-choices g q)) ∙ firstThat-append co ls rs ∙ ap (λ (u : Option (List X)). orElse u (firstThat co rs)) y
+
+        same : risen load e d start (p .before ++ choices g) ≡ risen load e d start (secondSide p .before ++ rs)
+        same = sym (ap (risen load e d start) (append-assoc (p .before) ls rs ∙ ap (λ (cs : List (List X)). p .before ++ cs) (split-choices g q)))
+
+        go : (z : Option (List X)) → firstThat co ls ≡ z
+            → onward load e d b (suc c) (secondChild g ∷ todo) (seen n (p ∷ parents) (firstSide p)) (endBy z (risen load e d start (p .before ++ ls)))
+            ≡ onward load e d (suc b) c todo (seen (suc n) parents p) (tried p)
+        go (some w) z =
+            onward-found load e d b c (secondChild g ∷ todo) todo (kept load e d test first) w
+            ∙ ap₂ (onward load e d (suc b) c todo) (sym (kept-split load e d test n parents p k q
+            ∙ ap suc (kept-found load e d test first second (has ∙ first-any co ls z)))) (tried-by p (some w) _ (found (some w) z) refl)
+        go none z =
+            onward-both load e d b c (secondChild g ∷ todo) todo (kept load e d test first)
+            (kept load e d test second) (barOf (secondSide p)) (tried (secondSide p))
+            (r (firstThat-append co (p .before) ls ∙ ap₂ orElse o z) (b - kept load e d test first) (suc c + kept load e d test first) todo)
+            ∙ ap₂ (onward load e d (suc b) c todo) (sym (kept-split load e d test n parents p k q
+            ∙ ap suc (kept-both load e d test first second (has ∙ none-any co ls z)))) (tried-by p (firstThat co rs) _ (found none z) same)
+
+    -- ---- all groups at and below a spot
+
+    -- with no budget the walk is cut short at once
+    budgets : (n : ℕ) (parents : List (Spot X)) (p : Spot X) → all test parents ≡ true → ((b c : ℕ) (todo : Todo) → From p (seen n parents p) (suc b) c todo)
+        → (b c : ℕ) (todo : Todo) → From p (seen n parents p) b c todo
+    budgets n parents p k h zero c todo = sym (onward-out load e d 0 c todo (seen n parents p) (tried p) (kept-some load e d test n parents p k))
+    budgets n parents p k h (suc b) c todo = h b c todo
+
+    -- one group alone is seen
+    alone : (n : ℕ) (parents : List (Spot X)) (p : Spot X) (b c : ℕ) (todo : Todo)
+        → seen n parents p ≡ 1 → From p 1 (suc b) c todo → From p (seen n parents p) (suc b) c todo
+    alone n parents p b c todo u r = r ∙ ap (λ (i : ℕ). onward load e d (suc b) c todo i (tried p)) (sym u)
+
+    run-groups : (n : ℕ) (parents : List (Spot X)) (p : Spot X) → T (full (p .group))
+        → excess (p .group) ≤ n → all test parents ≡ true → firstThat co (p .before) ≡ none
+        → (b c : ℕ) (todo : Todo) → From p (seen n parents p) b c todo
+    run-groups zero parents p f x k o =
+        let q = excess-single (p .group) x in
+        budgets zero parents p k (λ b c todo. alone zero parents p b c todo (kept-single load e d test zero parents p k q) (step-single p b c todo f q o))
+    run-groups (suc n) parents p f x k o =
+        budgets (suc n) parents p k
+        (go (λ q t. run-groups n (p ∷ parents) (firstSide p) (full-child first-part (p .group) f)
+        (omega (arith, excess-child first-part (p .group) q)) (ap₂ _&&_ t k) o)
+        (λ q t. run-groups n (p ∷ parents) (secondSide p) (full-child second-part (p .group) f)
+        (omega (arith, excess-child second-part (p .group) q)) (ap₂ _&&_ t k))
+        (single (p .group)) refl (ltb (barOf p .tick) (fin (p .group))) refl)
+      where
+        go : (single (p .group) ≡ false → test p ≡ true → (b c : ℕ) (todo : Todo) → From (firstSide p) (seen n (p ∷ parents) (firstSide p)) b c todo)
+            → (single (p .group) ≡ false → test p ≡ true → firstThat co (secondSide p .before) ≡ none
+            → (b c : ℕ) (todo : Todo) → From (secondSide p) (seen n (p ∷ parents) (secondSide p)) b c todo)
+            → (v : Bool) → single (p .group) ≡ v → (w : Bool) → ltb (barOf p .tick) (fin (p .group)) ≡ w
+            → (b c : ℕ) (todo : Todo) → From p (seen (suc n) parents p) (suc b) c todo
+        go l r true q w h b c todo = alone (suc n) parents p b c todo (kept-single load e d test (suc n) parents p k q) (step-single p b c todo f q o)
+        go l r false q false h b c todo =
+            alone (suc n) parents p b c todo
+            (kept-split load e d test n parents p k q ∙ ap suc (kept-blocked load e d test n parents p (agrees p o ∙ h))) (step-quiet p b c todo o h)
+        go l r false q true h b c todo = let t = agrees p o ∙ h in step-split n parents p b c todo f x q k h o (l q t) (r q t)
+
+    -- ---- the whole walk
+
+    -- where it ends: as if every choice had been tried in turn
+    abbrev ends : List (List X) → End X
+    ends top = endBy (firstThat co (choices top)) (risen load e d start (choices top))
+
+    run-top : (b : ℕ) (top : List (List X)) → T (full top) → run load e d b start (top ∷ []) 0 ≡ onward load e d b 0 [] (counted load e d test top) (ends top)
+    run-top b top f = run-groups (sum (map length top)) [] (record { group = top; before = [] }) f (excess-le top) refl refl b 0 []
+
+    pub run-sees : (top : List (List X)) → T (full top) → Sees load e d start (counted load e d test top) (ends top) top
+    run-sees top f =
+        record {
+          enough = λ b h. run-top b top f ∙ onward-last load e d b (counted load e d test top) (ends top) h;
+          short = λ b h. run-top b top f ∙ onward-out load e d b 0 [] (counted load e d test top) (ends top) h;
+        }
+
+-- the top group itself is seen
+pub counted-some : {X : Type 0} (load : X → ℕ → ℕ) (e d : ℕ) (test : Spot X → Bool) (top : List (List X)) → 1 ≤ counted load e d test top
+counted-some load e d test top = kept-some load e d test (sum (map length top)) [] (record { group = top; before = [] }) refl

@@ -7,37 +7,29 @@ use mathlib.Core.Bool.{Bool}
 use mathlib.Core.Logic.{_⊎_, inl, inr}
 use mathlib.Core.Option.{Option, none, some}
 use mathlib.Core.List.{List}
-use lib.Dec.{T, ltb, ltb→lt, lt→ltb}
+use lib.Dec.{T, ltb}
 use borrow.Author.Tests.{lt-ltb, le-ltb}
-use Rattle.meaning.specs.Lists.{ticks}
 use Rattle.meaning.specs.Table.{Task, Table, higher}
 use Rattle.meaning.specs.Paths.{Path}
-use Rattle.meaning.specs.Groups.{exceeds, choiceLoads, choiceOverloads, choices, witness}
-use Rattle.meaning.specs.Verdict.{Verdict, meets, misses, unfinished, refused, Listed, loadOf, topOf, pathsIn, decided, walked, ownE, deadline}
+use Rattle.meaning.specs.Groups.{choiceLoads, choiceOverloads, choices, witness}
+use Rattle.meaning.specs.Verdict.{Verdict, meets, misses, unfinished, refused, Listed, loadOf, topOf, pathsIn, decided, Asked, walked, ownE, deadline}
+use Rattle.meaning.specs.Verdict.{topAt, C}
 use Rattle.meaning.specs.Judge.{Row, refusal, judged}
 use Rattle.meaning.specs.Sound.{AllSound}
-use Rattle.meaning.specs.Demands.{Completes, Overload, ChoiceBefore, Overloadable, First, C}
-use Rattle.meaning.proofs.Lists.{all-mem, mem-all, mem-countFrom, countFrom-mem}
+use Rattle.meaning.specs.Demands.{Completes, Overload, ChoiceBefore, Overloadable, First}
+use Rattle.meaning.proofs.Finish.{exceeds-every, every-exceeds}
 use Rattle.meaning.proofs.Firsts.{first-is, first-least}
 use Rattle.meaning.proofs.Groups.{In, in-choices, choices-in}
 use Rattle.meaning.proofs.Choices.{in-completes, completes-in, completes-legal, in-loads, choice-suffices, Earlier, rising-choices}
 
 -- the walk of vertex v of task i
-abbrev pub walkedAt : Table → ℕ → ℕ → ℕ → Verdict
-walkedAt ts i v b = walked b (higher ts i) (ownE ts i v) (deadline ts i v)
-
--- ---- the test, at every tick
-
-exceeds-every : (e d : ℕ) (f : ℕ → ℕ) → T (exceeds e d f) → (t : ℕ) → 1 ≤ t → t ≤ d → t < e + f t
-exceeds-every e d f p t a b = ltb→lt t (e + f t) (all-mem (λ (s : ℕ). ltb s (e + f s)) (ticks d) p (mem-countFrom 1 d t a (omega arith)))
-
-every-exceeds : (e d : ℕ) (f : ℕ → ℕ) → ((t : ℕ) → 1 ≤ t → t ≤ d → t < e + f t) → T (exceeds e d f)
-every-exceeds e d f h = mem-all (λ (t : ℕ). ltb t (e + f t)) (ticks d) (λ t m. let r = countFrom-mem 1 d t m in lt→ltb t (e + f t) (h t (r .0) (omega arith)))
+abbrev pub walkedAt : Asked → Table → ℕ → ℕ → ℕ → Verdict
+walkedAt asked ts i v b = walked asked b (higher ts i) (ownE ts i v) (deadline ts i v)
 
 -- ---- the witness of a vertex
 
 abbrev pub W : Table → ℕ → ℕ → Option (List Listed)
-W ts i v = witness loadOf (ownE ts i v) (deadline ts i v) (topOf (higher ts i) (deadline ts i v))
+W ts i v = witness loadOf (ownE ts i v) (deadline ts i v) (topAt ts i v)
 
 module _ (ts : Table) (i v : ℕ) (s : AllSound (higher ts i)) where
   abbrev ks : List Task
@@ -120,47 +112,47 @@ decided-given n (some x) = tt
 
 -- ---- from the judgement to C and the witness
 
-module _ (ts : Table) (i v b work wit : ℕ) where
+module _ (asked : Asked) (ts : Table) (i v b work wit : ℕ) where
   abbrev D : Verdict
-  D = decided (C ts i v) (W ts i v)
+  D = decided (C asked ts i v) (W ts i v)
 
-  pub judged-enough : refusal ts i v work wit ≡ none → C ts i v ≤ b → judged ts i v b work wit ≡ D
+  pub judged-enough : refusal ts i v work wit ≡ none → C asked ts i v ≤ b → judged asked ts i v b work wit ≡ D
   unfolding judged
-  judged-enough q h = rw q (rw (le-ltb b (C ts i v) h))
+  judged-enough q h = rw q (rw (le-ltb b (C asked ts i v) h))
 
-  pub judged-short : refusal ts i v work wit ≡ none → b < C ts i v → judged ts i v b work wit ≡ unfinished b
+  pub judged-short : refusal ts i v work wit ≡ none → b < C asked ts i v → judged asked ts i v b work wit ≡ unfinished b
   unfolding judged
-  judged-short q h = rw q (rw (lt-ltb b (C ts i v) h))
+  judged-short q h = rw q (rw (lt-ltb b (C asked ts i v) h))
 
-  pub judged-refused : (r : Row) → refusal ts i v work wit ≡ some r → judged ts i v b work wit ≡ refused (r .number) (r .place)
+  pub judged-refused : (r : Row) → refusal ts i v work wit ≡ some r → judged asked ts i v b work wit ≡ refused (r .number) (r .place)
   unfolding judged
   judged-refused r q = rw q
 
   -- a meets or a misses: no refusal, and budget enough
-  pub judged-given : (x : Verdict) → judged ts i v b work wit ≡ x → Given x → (refusal ts i v work wit ≡ none) × (C ts i v ≤ b) × (D ≡ x)
-  judged-given x q g = go (refusal ts i v work wit) refl (decLt b (C ts i v))
+  pub judged-given : (x : Verdict) → judged asked ts i v b work wit ≡ x → Given x → (refusal ts i v work wit ≡ none) × (C asked ts i v ≤ b) × (D ≡ x)
+  judged-given x q g = go (refusal ts i v work wit) refl (decLt b (C asked ts i v))
     where
-      is : (y : Verdict) → judged ts i v b work wit ≡ y → Given y
+      is : (y : Verdict) → judged asked ts i v b work wit ≡ y → Given y
       is y p = subst Given (sym q ∙ p) g
 
-      go : (o : Option Row) → refusal ts i v work wit ≡ o → Dec (b < C ts i v) → (refusal ts i v work wit ≡ none) × (C ts i v ≤ b) × (D ≡ x)
+      go : (o : Option Row) → refusal ts i v work wit ≡ o → Dec (b < C asked ts i v) → (refusal ts i v work wit ≡ none) × (C asked ts i v ≤ b) × (D ≡ x)
       go (some r) p l = absurd (is (refused (r .number) (r .place)) (judged-refused r p))
       go none p (yes l) = absurd (is (unfinished b) (judged-short p l))
       go none p (no l) = (p, omega arith, sym (judged-enough p (omega arith)) ∙ q)
 
-  pub judged-unfinished : (n : ℕ) → judged ts i v b work wit ≡ unfinished n → (n ≡ b) × (b < C ts i v)
-  judged-unfinished n q = go (refusal ts i v work wit) refl (decLt b (C ts i v))
+  pub judged-unfinished : (n : ℕ) → judged asked ts i v b work wit ≡ unfinished n → (n ≡ b) × (b < C asked ts i v)
+  judged-unfinished n q = go (refusal ts i v work wit) refl (decLt b (C asked ts i v))
     where
-      go : (o : Option Row) → refusal ts i v work wit ≡ o → Dec (b < C ts i v) → (n ≡ b) × (b < C ts i v)
+      go : (o : Option Row) → refusal ts i v work wit ≡ o → Dec (b < C asked ts i v) → (n ≡ b) × (b < C asked ts i v)
       go (some r) p l =
           absurd (let k : refused (r .number) (r .place) ≡ unfinished n = sym (judged-refused r p) ∙ q in let z : _≡_ {A = ℕ} 0 1 = cc in omega arith)
       go none p (yes l) = let k : unfinished b ≡ unfinished n = sym (judged-short p l) ∙ q in (cc, l)
-      go none p (no l) = absurd (subst Given (sym (judged-enough p (omega arith)) ∙ q) (decided-given (C ts i v) (W ts i v)))
+      go none p (no l) = absurd (subst Given (sym (judged-enough p (omega arith)) ∙ q) (decided-given (C asked ts i v) (W ts i v)))
 
   -- refused by a row alone
-  pub judged-row : refusal ts i v work wit ≡ none → (k place : ℕ) → judged ts i v b work wit ≡ refused k place → ⊥
-  judged-row p k place q = go (decLt b (C ts i v))
+  pub judged-row : refusal ts i v work wit ≡ none → (k place : ℕ) → judged asked ts i v b work wit ≡ refused k place → ⊥
+  judged-row p k place q = go (decLt b (C asked ts i v))
     where
-      go : Dec (b < C ts i v) → ⊥
+      go : Dec (b < C asked ts i v) → ⊥
       go (yes l) = let e : unfinished b ≡ refused k place = sym (judged-short p l) ∙ q in let z : _≡_ {A = ℕ} 0 1 = cc in omega arith
-      go (no l) = subst Given (sym (judged-enough p (omega arith)) ∙ q) (decided-given (C ts i v) (W ts i v))
+      go (no l) = subst Given (sym (judged-enough p (omega arith)) ∙ q) (decided-given (C asked ts i v) (W ts i v))

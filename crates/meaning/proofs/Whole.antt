@@ -12,7 +12,7 @@ use borrow.Author.Tests.{lt-ltb, le-ltb}
 use Rattle.meaning.specs.Lists.{below}
 use Rattle.meaning.specs.Bounds.{deskWitness, largestD}
 use Rattle.meaning.specs.Table.{Task, Table, noTask, noVertex, taskAt, vertexAt}
-use Rattle.meaning.specs.Verdict.{refused, deadline}
+use Rattle.meaning.specs.Verdict.{refused, deadline, plain}
 use Rattle.meaning.specs.Areas.{witnessNeed}
 use Rattle.meaning.specs.Judge.{Row, row8, row9, row10, row11, refusal, unlessRefused, judged}
 use Rattle.meaning.specs.Whole.{Place, placesFrom, places, verdictAt}
@@ -71,13 +71,13 @@ last-row (x ∷ rows) r s p q = go (x .holds) refl (last-row rows r s p q)
     go false e ih = row-none x (rows ++ (r ∷ [])) e ∙ ih ∙ sym (row-none x (rows ++ (s ∷ [])) e)
 
 pub verdict-at : (ts : Table) (b work wit : ℕ) (q : Place) → witnessNeed ts (q .task) (q .vertex) ≤ wit
-    → verdictAt ts b work q ≡ judged ts (q .task) (q .vertex) b work wit
+    → verdictAt ts b work q ≡ judged plain ts (q .task) (q .vertex) b work wit
 unfolding judged refusal
 verdict-at ts b work wit q h =
     let i = q .task in
     let v = q .vertex in
     let need = witnessNeed ts i v in
-    ap (λ o. unlessRefused o (walkedAt ts i v b))
+    ap (λ o. unlessRefused o (walkedAt plain ts i v b))
     (last-row (row8 ts i v ∷ row9 ts i v ∷ row10 ts i v work ∷ []) (row11 ts i v need) (row11 ts i v wit)
     (le-ltb need need (le-refl need)) (le-ltb wit need h))
 
@@ -101,7 +101,7 @@ module _ (ts : Table) (b work : ℕ) (q : Place) (m : List·Memᴰ q (places ts)
       (rw (lt-ltb i (length ts) (p .0), lt-ltb v (length (taskAt ts i .vertices)) (p .1)))
 
   by-row : (r : Row) {k place : ℕ} → refusal ts i v work need ≡ some r → verdictAt ts b work q ≡ refused k place → r .number ≡ k
-  by-row r h e = let x : refused (r .number) (r .place) ≡ refused _ _ = sym (judged-refused ts i v b work need r h) ∙ e in cc
+  by-row r h e = let x : refused (r .number) (r .place) ≡ refused _ _ = sym (judged-refused plain ts i v b work need r h) ∙ e in cc
 
   pub nine-or-ten : (k place : ℕ) → verdictAt ts b work q ≡ refused k place → (k ≡ 9) ⊎ (k ≡ 10)
   nine-or-ten k place e = go (row9 ts i v .holds) refl (row10 ts i v work .holds) refl
@@ -115,7 +115,7 @@ module _ (ts : Table) (b work : ℕ) (q : Place) (m : List·Memᴰ q (places ts)
           inr (sym (by-row (row10 ts i v work) (past-8 ∙ row-none (row9 ts i v) behind9 p ∙ row-some (row10 ts i v work) (row11 ts i v need ∷ []) r) e))
       go false p false r =
           absurd
-          (judged-row ts i v b work need
+          (judged-row plain ts i v b work need
           (past-8 ∙ row-none (row9 ts i v) behind9 p ∙ row-none (row10 ts i v work) (row11 ts i v need ∷ []) r
           ∙ row-none (row11 ts i v need) [] (le-ltb need need (le-refl need)))
           k place e)

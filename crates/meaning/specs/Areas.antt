@@ -7,8 +7,8 @@ use lib.Seq.{sets}
 use lib.Dec.{eqb}
 use Rattle.meaning.specs.Lists.{pick, sum}
 use Rattle.meaning.specs.Table.{Task, Table, higher}
-use Rattle.meaning.specs.Paths.{pathsOf}
-use Rattle.meaning.specs.Verdict.{Verdict, kindOf, missPaths, cellsOf, deadline}
+use Rattle.meaning.specs.Paths.{Path, pathsOf}
+use Rattle.meaning.specs.Verdict.{Verdict, kindOf, shownPaths, cellsOf, deadline}
 
 -- ---- needs
 
@@ -46,9 +46,9 @@ needUnless x need = pick (eqb (kindOf x) 3) 0 need
 abbrev pub workAfter : Verdict → ℕ → List ℕ → List ℕ
 workAfter x need cells = zeroed (needUnless x need) cells
 
--- on a miss its front holds, per higher task in order, the path's length and vertices; the other verdicts don't touch it
-abbrev pub witnessAfter : Verdict → List ℕ → List ℕ
-witnessAfter x cells = written (cellsOf (missPaths x)) cells
+-- on a miss its front holds, per higher task in order, the path's length and vertices; on a meets those of the paths us; the other verdicts don't touch it
+abbrev pub witnessAfter : List Path → Verdict → List ℕ → List ℕ
+witnessAfter us x cells = written (cellsOf (shownPaths us x)) cells
 
 -- ---- what writing into a lent area promises
 

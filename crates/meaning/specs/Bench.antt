@@ -1,4 +1,4 @@
--- The bench examples R1 to R8, as one table under one claim; `proofs/Bench` proves it.
+-- The bench examples R1 to R8, and what some of them give where the latest finish is asked for, as one table under one claim; `proofs/Bench` proves it.
 use Prim.Native.Nat.{ℕ, _-_, _*_}
 use Prim.Native.Char.{code}
 use Prim.Native.String.{String, [] as []ˢ, _∷_ as _∷ˢ_}
@@ -7,10 +7,10 @@ use mathlib.Core.List.{List, [], _∷_, _++_}
 use lib.Dec.{T, eqb}
 use Rattle.meaning.specs.Lists.{all}
 use Rattle.meaning.specs.Bounds.{deskBudget, deskWork, deskWitness}
-use Rattle.meaning.specs.Table.{Task, Table, vertex, edge, task, higher}
+use Rattle.meaning.specs.Table.{Task, Table, vertex, edge, task}
 use Rattle.meaning.specs.Paths.{completePaths}
 use Rattle.meaning.specs.Groups.{P}
-use Rattle.meaning.specs.Verdict.{Verdict, numbers, cellsOf, missPaths, topOf, deadline}
+use Rattle.meaning.specs.Verdict.{Verdict, numbers, cellsOf, missPaths, shownPaths, beside, plain, latest, topAt, worstAt, latestPaths}
 use Rattle.meaning.specs.Judge.{judged}
 use Rattle.meaning.specs.Desk.{output}
 
@@ -77,7 +77,17 @@ abbrev pub shown : Verdict → List ℕ
 shown x = numbers x ++ cellsOf (missPaths x)
 
 abbrev pub judgedWith : ℕ → Table → ℕ → List ℕ
-judgedWith b ts i = shown (judged ts i 0 b deskWork deskWitness)
+judgedWith b ts i = shown (judged plain ts i 0 b deskWork deskWitness)
+
+-- where the latest finish is asked for: the verdict in numbers, the figure beside it, then the cells written
+abbrev pub lateWith : ℕ → Table → ℕ → List ℕ
+lateWith b ts i =
+    let x = judged latest ts i 0 b deskWork deskWitness in
+    numbers x ++ (beside x (worstAt ts i 0) ∷ cellsOf (shownPaths (latestPaths ts i 0) x))
+
+-- above, four vertices of these e, no edges; judged e 2, d 6
+abbrev pub below : ℕ → ℕ → ℕ → ℕ → Table
+below a b c d = task (vertex a 5 ∷ vertex b 5 ∷ vertex c 5 ∷ vertex d 5 ∷ []) [] ∷ lone 2 6 ∷ []
 
 abbrev pub examples : List Example
 examples =
@@ -97,12 +107,35 @@ examples =
     -- R7: paths (0), (1,2), (2); meets, C = 5 = 2P - 1
     ∷ (pathList r7above 5 gives (1 ∷ 0 ∷ 2 ∷ 1 ∷ 2 ∷ 1 ∷ 2 ∷ []))
     ∷ (judgedWith deskBudget r7 1 gives (0 ∷ 5 ∷ []))
-    ∷ (((2 * P (topOf (higher r7 1) (deadline r7 1 0)) - 1) ∷ []) gives (5 ∷ []))
+    ∷ (((2 * P (topAt r7 1 0) - 1) ∷ []) gives (5 ∷ []))
     -- R8: budgets 0, 4, 5, 6
     ∷ (judgedWith 0 r7 1 gives (2 ∷ 0 ∷ []))
     ∷ (judgedWith 4 r7 1 gives (2 ∷ 4 ∷ []))
     ∷ (judgedWith 5 r7 1 gives (0 ∷ 5 ∷ []))
     ∷ (judgedWith 6 r7 1 gives (0 ∷ 5 ∷ []))
+    -- how late is the latest. R2: C = 1, tick 5, paths (0,0) and (0)
+    ∷ (lateWith deskBudget r2 2 gives (0 ∷ 1 ∷ 5 ∷ 2 ∷ 0 ∷ 0 ∷ 1 ∷ 0 ∷ []))
+    -- R4 misses as before
+    ∷ (lateWith deskBudget (lone 3 2 ∷ []) 0 gives (1 ∷ 1 ∷ 0 ∷ 0 ∷ []))
+    -- nothing above: e itself, no cells
+    ∷ (lateWith deskBudget (lone 2 5 ∷ []) 0 gives (0 ∷ 1 ∷ 2 ∷ []))
+    -- R5: (0) finishes at 3, (1) at 5; R6 misses as before, with this C
+    ∷ (lateWith deskBudget (r5 5) 1 gives (0 ∷ 3 ∷ 5 ∷ 1 ∷ 1 ∷ []))
+    ∷ (lateWith deskBudget (r5 4) 1 gives (1 ∷ 3 ∷ 2 ∷ 0 ∷ 1 ∷ 1 ∷ []))
+    -- R7: finishes 4, 2 and 5, and budgets as R8
+    ∷ (lateWith deskBudget r7 1 gives (0 ∷ 5 ∷ 5 ∷ 1 ∷ 2 ∷ []))
+    ∷ (lateWith 4 r7 1 gives (2 ∷ 4 ∷ 0 ∷ []))
+    -- the first path finishes at 6, and the second half of the range at 3: it is passed over
+    ∷ (judgedWith deskBudget (below 4 1 1 1) 1 gives (0 ∷ 1 ∷ []))
+    ∷ (lateWith 4 (below 4 1 1 1) 1 gives (2 ∷ 4 ∷ 0 ∷ []))
+    ∷ (lateWith 5 (below 4 1 1 1) 1 gives (0 ∷ 5 ∷ 6 ∷ 1 ∷ 0 ∷ []))
+    -- so it is when it finishes no earlier and no later, and the first choice stays
+    ∷ (lateWith 5 (below 1 1 1 1) 1 gives (0 ∷ 5 ∷ 3 ∷ 1 ∷ 0 ∷ []))
+    -- a tick later it isn't, and the last choice is the latest
+    ∷ (lateWith deskBudget (below 1 1 1 2) 1 gives (0 ∷ 7 ∷ 4 ∷ 1 ∷ 3 ∷ []))
+    -- a miss, with the old witness and this call's C: document 01's walk doesn't go into the first half of the range
+    ∷ (judgedWith deskBudget (below 1 1 5 1) 1 gives (1 ∷ 4 ∷ 2 ∷ 1 ∷ 2 ∷ []))
+    ∷ (lateWith deskBudget (below 1 1 5 1) 1 gives (1 ∷ 6 ∷ 2 ∷ 0 ∷ 1 ∷ 2 ∷ []))
     ∷ []
 
 -- the claim

@@ -11,8 +11,7 @@ use Rattle.meaning.specs.Text.{readable, read}
 use Rattle.meaning.specs.Lists.{sum, Rising}
 use Rattle.meaning.specs.Table.{Task, Table, higher}
 use Rattle.meaning.specs.Paths.{Path, legal, complete, load, completePaths, pathsOf, Before}
-use Rattle.meaning.specs.Groups.{count}
-use Rattle.meaning.specs.Verdict.{refused, loadOf, topOf, ownE, deadline}
+use Rattle.meaning.specs.Verdict.{refused, ownE, deadline}
 use Rattle.meaning.specs.Whole.{Place, places, verdictAt}
 
 -- ---- one path of each task
@@ -57,9 +56,21 @@ pub record First (ts : Table) (i v : ℕ) (ws : List Path) : Type 0 where
   pub first : (us : List Path) → Completes (deadline ts i v) (higher ts i) us → Overload (higher ts i) (ownE ts i v) (deadline ts i v) us
       → (ws ≡ us) ⊎ ChoiceBefore ws us
 
--- the number of groups that document 01's rule has to examine
-abbrev pub C : Table → ℕ → ℕ → ℕ
-C ts i v = count loadOf (ownE ts i v) (deadline ts i v) (topOf (higher ts i) (deadline ts i v))
+-- ---- how late is the latest
+
+-- "For a choice of paths the finish is the first t from 1 to d at which e plus the loads is at most t"
+pub record Finishes (ts : Table) (i v : ℕ) (ws : List Path) (t : ℕ) : Type 0 where
+  pub some : 1 ≤ t
+  pub most : t ≤ deadline ts i v
+  pub free : ownE ts i v + loadsAt (higher ts i) ws t ≤ t
+  pub first : (u : ℕ) → 1 ≤ u → u < t → u < ownE ts i v + loadsAt (higher ts i) ws u
+
+-- "the worst is the largest over all choices, with the first choice in document 01's order that reaches it"; no legal paths of any length finish later
+pub record Worst (ts : Table) (i v n : ℕ) (ws : List Path) : Type 0 where
+  pub complete : Completes (deadline ts i v) (higher ts i) ws
+  pub reached : Finishes ts i v ws n
+  pub largest : (us : List Path) → EachOf (λ (k : Task) (w : Path). T (legal k w)) (higher ts i) us → (t : ℕ) × Finishes ts i v us t × (t ≤ n)
+  pub first : (us : List Path) → Completes (deadline ts i v) (higher ts i) us → Finishes ts i v us n → (ws ≡ us) ⊎ ChoiceBefore ws us
 
 -- ---- paths
 

@@ -9,7 +9,7 @@ use Rattle.meaning.specs.Bounds.{longestInput, deskWork, deskWitness, de
 use Rattle.meaning.specs.Table.{Table}
 use Rattle.meaning.specs.Text.{Reading, readable, unreadable, read, lineFeed}
 use Rattle.meaning.specs.Paths.{Path}
-use Rattle.meaning.specs.Verdict.{Verdict, numbers, kindOf, missPaths}
+use Rattle.meaning.specs.Verdict.{Verdict, numbers, kindOf, missPaths, plain}
 use Rattle.meaning.specs.Judge.{judged}
 use Rattle.meaning.specs.Whole.{Place, places, Counts, countsOf}
 
@@ -64,7 +64,7 @@ refusalFrame k n = 30 ∷ k ∷ two n
 -- ---- the output
 
 abbrev pub deskVerdict : Table → Place → Verdict
-deskVerdict ts q = judged ts (q .task) (q .vertex) deskBudget deskWork deskWitness
+deskVerdict ts q = judged plain ts (q .task) (q .vertex) deskBudget deskWork deskWitness
 
 abbrev pub tableFrames : Table → List (List ℕ)
 tableFrames ts =

@@ -10,7 +10,7 @@ use Rattle.meaning.specs.Bounds.{mostPaths}
 use Rattle.meaning.specs.Table.{Table, taskAt, higher}
 use Rattle.meaning.specs.Text.{Reading, readable, unreadable, read}
 use Rattle.meaning.specs.Paths.{pathsOf}
-use Rattle.meaning.specs.Verdict.{Verdict, refused, walked, ownE, deadline}
+use Rattle.meaning.specs.Verdict.{Verdict, refused, Asked, walked, ownE, deadline}
 use Rattle.meaning.specs.Areas.{workNeed, witnessNeed}
 
 -- a row of the refusal sheet: whether it holds, and what is returned with it
@@ -50,9 +50,9 @@ unlessRefused none x = x
 unlessRefused (some r) x = refused (r .number) (r .place)
 
 -- vertex v of task i with budget b
-unfoldable pub judged : Table → ℕ → ℕ → ℕ → ℕ → ℕ → Verdict
+unfoldable pub judged : Asked → Table → ℕ → ℕ → ℕ → ℕ → ℕ → Verdict
 unfolding refusal walked
-judged ts i v b work wit = unlessRefused (refusal ts i v work wit) (walked b (higher ts i) (ownE ts i v) (deadline ts i v))
+judged a ts i v b work wit = unlessRefused (refusal ts i v work wit) (walked a b (higher ts i) (ownE ts i v) (deadline ts i v))
 
 -- ---- from the text: a readable table goes on, anything else returns at once
 
@@ -60,6 +60,6 @@ abbrev pub onReading : Reading → (Table → Verdict) → Verdict
 onReading (readable ts) f = f ts
 onReading (unreadable k n) f = refused k n
 
--- text, task, vertex, budget, work cells, witness cells
-abbrev pub answer : List ℕ → ℕ → ℕ → ℕ → ℕ → ℕ → Verdict
-answer text i v b work wit = onReading (read text) (λ (ts : Table). judged ts i v b work wit)
+-- what is asked, then text, task, vertex, budget, work cells, witness cells
+abbrev pub answer : Asked → List ℕ → ℕ → ℕ → ℕ → ℕ → ℕ → Verdict
+answer a text i v b work wit = onReading (read text) (λ (ts : Table). judged a ts i v b work wit)

@@ -24,6 +24,11 @@ abbrev pub firstThat {ℓ} : {X : Type ℓ} → (X → Bool) → List X → Opti
 firstThat f [] = none
 firstThat f (x ∷ xs) = elim (f x) [ true ↦ some x | false ↦ firstThat f xs ]
 
+-- what is there, else the given one
+abbrev pub orGiven {ℓ} : {X : Type ℓ} → X → Option X → X
+orGiven x none = x
+orGiven x (some y) = y
+
 -- the list up to and with the first element of which the test holds; all of it where there is none
 abbrev pub upTo {ℓ} : {X : Type ℓ} → (X → Bool) → List X → List X
 upTo f [] = []

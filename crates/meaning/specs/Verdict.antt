@@ -3,11 +3,11 @@ use Prim.Native.Nat.{ℕ}
 use mathlib.Core.Option.{Option, none, some}
 use mathlib.Core.List.{List, [], _∷_, map}
 use lib.ListN.{length, getD}
-use lib.Dec.{ltb}
-use Rattle.meaning.specs.Lists.{pick, gather}
-use Rattle.meaning.specs.Table.{Task, Table, vertexAt, taskAt}
+use lib.Dec.{ltb, eqb}
+use Rattle.meaning.specs.Lists.{pick, gather, orGiven}
+use Rattle.meaning.specs.Table.{Task, Table, vertexAt, taskAt, higher}
 use Rattle.meaning.specs.Paths.{Path, load, pathsOf}
-use Rattle.meaning.specs.Groups.{count, witness}
+use Rattle.meaning.specs.Groups.{count, witness, lateCount, worst, worstChoice}
 
 -- meets with C; misses with C and the paths that cause it; unfinished with the budget; refused with the refusal's number and its place
 pub data Verdict : Type 0 where
@@ -31,12 +31,19 @@ numbers (refused k place) = 3 ∷ k ∷ place ∷ []
 abbrev pub kindOf : Verdict → ℕ
 kindOf x = getD (numbers x) 0 0
 
--- the paths that cause a miss; none with any other verdict
+-- "a figure beside meets", and 0 beside any other verdict
+abbrev pub beside : Verdict → ℕ → ℕ
+beside x n = pick (eqb (kindOf x) 0) n 0
+
+-- the paths that cause a miss; these with a meets; none with any other verdict
+abbrev pub shownPaths : List Path → Verdict → List Path
+shownPaths us (meets c) = us
+shownPaths us (misses c ws) = ws
+shownPaths us (unfinished b) = []
+shownPaths us (refused k place) = []
+
 abbrev pub missPaths : Verdict → List Path
-missPaths (meets c) = []
-missPaths (misses c ws) = ws
-missPaths (unfinished b) = []
-missPaths (refused k place) = []
+missPaths x = shownPaths [] x
 
 -- ---- the walk of a vertex
 
@@ -62,10 +69,20 @@ abbrev pub decided : ℕ → Option (List Listed) → Verdict
 decided c none = meets c
 decided c (some w) = misses c (pathsIn w)
 
+-- what a judging call asks for: document 01's verdict, or also "how late is the latest?"
+pub data Asked : Type 0 where
+  plain : Asked
+  latest : Asked
+
+-- its C
+abbrev pub countOf : Asked → ℕ → ℕ → List (List Listed) → ℕ
+countOf plain e d top = count loadOf e d top
+countOf latest e d top = lateCount loadOf e d top
+
 -- a job of e ticks and deadline d under the tasks ks, with budget b: unfinished exactly if it is below C
-unfoldable pub walked : ℕ → List Task → ℕ → ℕ → Verdict
-unfolding load pathsOf count witness
-walked b ks e d = let c = count loadOf e d (topOf ks d) in pick (ltb b c) (unfinished b) (decided c (witness loadOf e d (topOf ks d)))
+unfoldable pub walked : Asked → ℕ → List Task → ℕ → ℕ → Verdict
+unfolding load pathsOf count lateCount witness
+walked a b ks e d = let c = countOf a e d (topOf ks d) in pick (ltb b c) (unfinished b) (decided c (witness loadOf e d (topOf ks d)))
 
 -- ---- a vertex of a table
 
@@ -75,3 +92,22 @@ ownE ts i v = vertexAt (taskAt ts i) v .e
 
 abbrev pub deadline : Table → ℕ → ℕ → ℕ
 deadline ts i v = vertexAt (taskAt ts i) v .d
+
+abbrev pub topAt : Table → ℕ → ℕ → List (List Listed)
+topAt ts i v = topOf (higher ts i) (deadline ts i v)
+
+-- the number of groups that the call's rule has to examine
+abbrev pub C : Asked → Table → ℕ → ℕ → ℕ
+C a ts i v = countOf a (ownE ts i v) (deadline ts i v) (topAt ts i v)
+
+-- the worst finish, and the first paths that reach it
+abbrev pub worstAt : Table → ℕ → ℕ → ℕ
+worstAt ts i v = worst loadOf (ownE ts i v) (deadline ts i v) (topAt ts i v)
+
+abbrev pub latestPaths : Table → ℕ → ℕ → List Path
+latestPaths ts i v = pathsIn (orGiven [] (worstChoice loadOf (ownE ts i v) (deadline ts i v) (topAt ts i v)))
+
+-- the paths that a meets writes: "in this call a meets writes there too"
+abbrev pub meetsPaths : Asked → Table → ℕ → ℕ → List Path
+meetsPaths plain ts i v = []
+meetsPaths latest ts i v = latestPaths ts i v

@@ -6,7 +6,7 @@ use lib.Dec.{eqb}
 use Rattle.meaning.specs.Lists.{those, below, largest}
 use Rattle.meaning.specs.Table.{Task, Table}
 use Rattle.meaning.specs.Text.{Reading, readable, unreadable}
-use Rattle.meaning.specs.Verdict.{Verdict, kindOf}
+use Rattle.meaning.specs.Verdict.{Verdict, kindOf, plain}
 use Rattle.meaning.specs.Areas.{workNeed, witnessNeed, zeroed, needUnless}
 use Rattle.meaning.specs.Judge.{judged}
 
@@ -27,7 +27,7 @@ places ts = placesFrom 0 ts
 
 -- "It takes no witness area": each vertex is judged as with one that is long enough, so of the sheet only 9 and 10 are left
 abbrev pub verdictAt : Table → ℕ → ℕ → Place → Verdict
-verdictAt ts b work q = judged ts (q .task) (q .vertex) b work (witnessNeed ts (q .task) (q .vertex))
+verdictAt ts b work q = judged plain ts (q .task) (q .vertex) b work (witnessNeed ts (q .task) (q .vertex))
 
 abbrev pub verdicts : Table → ℕ → ℕ → List Verdict
 verdicts ts b work = map (verdictAt ts b work) (places ts)

@@ -1,19 +1,16 @@
--- The overload test on rows, cell by cell and tick by tick.
-use mathlib.Core.Path.{_≡_, refl, sym, ap, ap₂, _∙_}
-use Prim.Native.Nat.{ℕ, zero, suc, _+_, _-_, _*_, _≤_, _<_}
+-- The finish on rows, cell by cell and tick by tick.
+use mathlib.Core.Path.{_≡_, refl, sym, ap, _∙_}
+use Prim.Native.Nat.{ℕ, _+_, _-_, _*_, _≤_, _<_}
 use native.Mathlib.Nat.{add-zero}
 use native.Mathlib.Omega.{arith}
 use native.Mathlib.Numerals.{add-one}
-use mathlib.Core.Bool.{Bool, true, false, _&&_}
 use mathlib.Core.List.{List, [], _∷_, map}
 use lib.ListN.{length, take, getD}
 use lib.Seq.{take-suc}
-use lib.Dec.{ltb}
-use borrow.Author.Tests.{lt-ltb, le-ltb}
-use Rattle.meaning.specs.Lists.{all, sum, countFrom}
-use Rattle.meaning.specs.Groups.{exceeds}
+use Rattle.meaning.specs.Lists.{sum}
 use Rattle.meaning.proofs.Lists.{map-append, sum-append}
-use Rattle.overload.specs.Rows.{loadsAt, rowsOverload, light}
+use Rattle.meaning.proofs.Finish.{finish-some, finish-most, finish-here, finish-past}
+use Rattle.overload.specs.Rows.{loadsAt, rowsFinish, light}
 
 -- ---- the sum, cell by cell
 
@@ -45,41 +42,34 @@ summed-all {work} {base} {t} s h e = s .is ∙ ap (λ (z : ℕ). loadsAt work (t
 
 -- ---- the ticks, one by one
 
--- the test at the ticks behind t
-abbrev behindTick : List ℕ → ℕ → ℕ → List ℕ → ℕ → Bool
-behindTick work d e base t = all (λ (u : ℕ). ltb u (e + loadsAt work base (u - 1))) (countFrom (suc t) (d - t))
-
 -- no tick up to t is free
 pub record Looked (work : List ℕ) (d e : ℕ) (base : List ℕ) (t : ℕ) : Type 0 where
   pub most : t ≤ d
-  pub same : rowsOverload work d e base ≡ behindTick work d e base t
+  pub busy : t < rowsFinish work d e base
+
+-- the loads at tick t
+abbrev at : List ℕ → List ℕ → ℕ → ℕ
+at work base t = loadsAt work base (t - 1)
 
 module _ {work : List ℕ} {d e : ℕ} {base : List ℕ} where
   pub looked-none : Looked work d e base 0
-  unfolding rowsOverload
-  looked-none = let h : d - 0 ≡ d = omega arith in record { most = omega arith; same = rw h }
+  unfolding rowsFinish
+  looked-none = record { most = omega arith; busy = finish-some e d (at work base) }
 
   module _ {t : ℕ} (k : Looked work d e base t) where
     module _ {x : ℕ} (is : x ≡ loadsAt work base t) (l : t < d) where
-      tick-one : behindTick work d e base t ≡ (ltb (suc t) (e + x) && behindTick work d e base (t + 1))
-      tick-one =
-          let p : d - t ≡ suc (d - (t + 1)) = omega arith in
-          let q : suc t - 1 ≡ t = omega arith in
-          rw (is, p, q, add-one t)
+      here : x ≡ at work base (t + 1)
+      here = let q : t + 1 - 1 ≡ t = omega arith in is ∙ ap (loadsAt work base) (sym q)
 
-      pub looked-free : e + x ≤ t + 1 → false ≡ rowsOverload work d e base
-      looked-free f = sym (k .same ∙ tick-one ∙ rw (le-ltb (suc t) (e + x) (omega arith)))
+      pub looked-free : e + x ≤ t + 1 → t + 1 ≡ rowsFinish work d e base
+      unfolding rowsFinish
+      looked-free f = let b = k .busy in sym (finish-here e d (at work base) (t + 1) (omega arith) (omega arith) (omega arith) (omega (arith, here)))
 
       pub looked-more : t + 1 < e + x → Looked work d e base (t + 1)
-      looked-more f = record { most = omega arith; same = k .same ∙ tick-one ∙ rw (lt-ltb (suc t) (e + x) (omega arith)) }
+      unfolding rowsFinish
+      looked-more f = let b = k .busy in
+          record { most = omega arith; busy = finish-past e d (at work base) (t + 1) (omega arith) (omega arith) (omega (arith, here)) }
 
-    pub looked-all : d ≤ t → true ≡ rowsOverload work d e base
-    looked-all l = let p : d - t ≡ 0 = omega arith in sym (k .same ∙ rw p)
-
--- the test is the same where the loads are, from 1 to d
-all-same : (f g : ℕ → Bool) (k n : ℕ) → ((t : ℕ) → k ≤ t → t < k + n → f t ≡ g t) → all f (countFrom k n) ≡ all g (countFrom k n)
-all-same f g k zero h = refl
-all-same f g k (suc n) h = ap₂ _&&_ (h k (omega arith) (omega arith)) (all-same f g (suc k) n (λ t a b. h t (omega arith) (omega arith)))
-
-pub exceeds-same : (e d : ℕ) (f g : ℕ → ℕ) → ((t : ℕ) → 1 ≤ t → t ≤ d → f t ≡ g t) → exceeds e d f ≡ exceeds e d g
-exceeds-same e d f g h = all-same _ _ 1 d (λ t a b. ap (λ (n : ℕ). ltb t (e + n)) (h t a (omega arith)))
+    pub looked-all : d ≤ t → d + 1 ≡ rowsFinish work d e base
+    unfolding rowsFinish
+    looked-all l = omega (arith, k .busy, finish-most e d (at work base))

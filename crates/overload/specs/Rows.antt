@@ -1,21 +1,20 @@
--- Rows of numbers in the work area, one of each higher task, and the overload test on them.
+-- Rows of numbers in the work area, one of each higher task, and the finish by them.
 use mathlib.Core.Path.{_≡_}
 use Prim.Native.Nat.{ℕ, suc, _+_, _-_, _*_, _≤_, _<_}
-use mathlib.Core.Bool.{Bool}
 use mathlib.Core.List.{List, map}
 use lib.ListN.{length, getD}
 use Rattle.meaning.specs.Bounds.{largestE, largestD, mostHigher}
 use Rattle.meaning.specs.Lists.{sum}
-use Rattle.meaning.specs.Groups.{exceeds}
+use Rattle.meaning.specs.Groups.{finish}
 
 -- the sum of the cells t places behind the rows' starts: the loads at tick t + 1
 unfoldable pub loadsAt : List ℕ → List ℕ → ℕ → ℕ
 loadsAt work base t = sum (map (λ (b : ℕ). getD work (b + t) 0) base)
 
--- the overload test on the rows that begin there
-unfoldable pub rowsOverload : List ℕ → ℕ → ℕ → List ℕ → Bool
+-- the finish by the rows that begin there
+unfoldable pub rowsFinish : List ℕ → ℕ → ℕ → List ℕ → ℕ
 unfolding loadsAt
-rowsOverload work d e base = exceeds e d (λ (t : ℕ). loadsAt work base (t - 1))
+rowsFinish work d e base = finish e d (λ (t : ℕ). loadsAt work base (t - 1))
 
 -- ---- what is asked
 

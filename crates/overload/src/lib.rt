@@ -1,4 +1,5 @@
-// The overload test: "for every t from 1 to d, e plus the loads at t exceeds t".
+// The overload test: "for every t from 1 to d, e plus the loads at t exceeds t". And the finish, "the first t from 1 to d at which e plus the loads is at
+// most t": a group that overloads finishes later than d.
 //
 // A group's loads stand in the work area, a row of d cells for each higher task: the cell of tick t is t - 1 places behind the row's start (`base`).
 use bounds::PerTask;
@@ -6,7 +7,7 @@ ghost use mathlib.Core.Path.{_≡_};
 ghost use Prim.Native.Nat.{_*_, _≤_, _<_};
 ghost use lib.ListN.{take};
 ghost use Rattle.meaning.specs.Bounds.{mostHigher};
-ghost use Rattle.overload.specs.Rows.{light, loadsAt, rowsOverload, LightRows};
+ghost use Rattle.overload.specs.Rows.{light, loadsAt, rowsFinish, LightRows};
 
 // The loads at tick t + 1, together.
 fn loads_at(work: &[u32], base: &PerTask, h: usize, d: usize, t: usize) -> u32
@@ -23,18 +24,19 @@ fn loads_at(work: &[u32], base: &PerTask, h: usize, d: usize, t: usize) -> u32
     sum
 }
 
-// Looks at each tick in turn, and stops at the first free one.
-pub fn overloads(work: &[u32], base: &PerTask, h: usize, d: usize, e: u32) -> bool
+// Looks at each tick in turn, and stops at the first free one; d + 1 where there is none.
+pub fn finish(work: &[u32], base: &PerTask, h: usize, d: usize, e: u32) -> u32
     requires { ⌜ (e ≤ light) × LightRows h d (now base) (now work) ⌝ }
-    ensures { λ r. ⌜ r ≡ rowsOverload (now (work .entry)) d e (take h (now (base .entry))) ⌝ }
+    ensures { λ r. ⌜ r ≡ rowsFinish (now (work .entry)) d e (take h (now (base .entry))) ⌝ }
 {
     let mut t: usize = 0;
     while t < d {
+        let tick = t as u32 + 1;
         let s = e + loads_at(work, base, h, d, t);
-        if s <= t as u32 + 1 {
-            return false;
+        if s <= tick {
+            return tick;
         }
         t += 1;
     }
-    true
+    d as u32 + 1
 }

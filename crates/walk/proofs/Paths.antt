@@ -1,4 +1,4 @@
--- A group of ranges stands for a group of paths: it is single, splits and overloads as that one.
+-- A group of ranges stands for a group of paths: it is single, splits and finishes as that one.
 use mathlib.Core.Path.{_≡_, refl, sym, ap, ap₂, _∙_}
 use Prim.Native.Nat.{ℕ, zero, suc, _+_, _-_, _≤_, _<_}
 use native.Mathlib.Omega.{arith}
@@ -9,17 +9,17 @@ use lib.Seq.{take-take, drop-drop, take-all}
 use lib.Dec.{ltb}
 use borrow.Author.Tests.{ltb-false}
 use Rattle.meaning.specs.Groups as Meant
-use Rattle.meaning.specs.Groups.{half, firstPart, secondPart, long, single, groupLoads, overloads}
+use Rattle.meaning.specs.Groups.{half, firstPart, secondPart, long, single, groupLoads}
 use Rattle.meaning.specs.Walk.{firstChild, secondChild, heads}
 use Rattle.meaning.proofs.Lists.{drop-take}
 use Rattle.rows.specs.Ranges.{Range, endOf, firstHalf, secondHalf}
 use Rattle.groups.specs.Groups.{firsts, topGroup, allSingle, childBy, InWalk, rowStarts}
 use Rattle.rows.specs.Order.{Node}
-use Rattle.overload.specs.Rows.{loadsAt, rowsOverload}
-use Rattle.walk.specs.Steps.{groupOverloads}
+use Rattle.overload.specs.Rows.{loadsAt, rowsFinish}
+use Rattle.walk.specs.Steps.{groupFinish}
 use Rattle.walk.specs.Told.{sizes, partOf, chosen, AtPaths, RowsHold}
 use Rattle.rows.proofs.Order.{node-in, node-pos}
-use Rattle.overload.proofs.Ticks.{exceeds-same}
+use Rattle.meaning.proofs.Finish.{finish-same}
 
 module _ {X : Type 0} where
   abbrev pub groupOf : List (List X) → List Range → List (List X)
@@ -122,12 +122,12 @@ module _ {X : Type 0} (load : X → ℕ → ℕ) (work : List ℕ) (d : ℕ) whe
       ap₂ (λ (a b : ℕ). a + b) (w 0 (omega arith) (x .first) (x .len) (o .1) t l)
       (loads-are Gs root xs t (omega arith) (λ j k. w (suc j) (omega arith)) (o .3) l)
 
-  pub overloads-are : (e : ℕ) (Gs : List (List X)) (root : List ℕ) → length Gs ≤ length root → RowsHold load d work root Gs
+  pub finishes-are : (e : ℕ) (Gs : List (List X)) (root : List ℕ) → length Gs ≤ length root → RowsHold load d work root Gs
       → (xs : List Range) → InWalk (sizes Gs) xs
-      → groupOverloads work d e (take (length Gs) root) xs ≡ overloads load e d (groupOf Gs xs)
-  unfolding rowsOverload overloads
-  overloads-are e Gs root n w xs o =
-      exceeds-same e d _ _
+      → groupFinish work d e (take (length Gs) root) xs ≡ Meant.groupFinish load e d (groupOf Gs xs)
+  unfolding rowsFinish Meant.groupFinish
+  finishes-are e Gs root n w xs o =
+      finish-same e d _ _
       (λ t a b.
       let q : suc (t - 1) ≡ t = omega arith in
       loads-are Gs root xs (t - 1) n w o (omega arith) ∙ ap (groupLoads load (groupOf Gs xs)) q)

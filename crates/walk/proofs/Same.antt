@@ -1,44 +1,69 @@
 -- The walk over ranges is the walk over groups of paths, step by step.
 use mathlib.Core.Path.{_≡_, refl, sym, ap, ap₂, subst, _∙_}
-use Prim.Native.Nat.{ℕ, zero, suc, _+_, _≤_}
+use Prim.Native.Nat.{ℕ, zero, suc, _+_, _≤_, _<_}
 use native.Mathlib.Nat.{add-zero, zero-add}
 use native.Mathlib.Omega.{arith}
+use native.Mathlib.Decide.{decLt}
 use mathlib.Core.Bool.{Bool, true, false}
 use mathlib.Core.Option.{Option, none, some}
 use mathlib.Core.List.{List, [], _∷_, map}
 use lib.Dec.{T, ltb, lt→ltb}
 use lib.ListN.{length}
-use borrow.Author.Tests.{ltb-true, ltb-false}
-use Rattle.meaning.specs.Lists.{pick}
-use Rattle.meaning.specs.Groups.{overloads, count, witness}
-use Rattle.meaning.specs.Walk as Walked
-use Rattle.meaning.specs.Walk.{Outcome, ended, cut, run}
+use Rattle.meaning.specs.Groups.{groupFinish}
+use Rattle.meaning.specs.Walk as Paths
+use Rattle.meaning.specs.Walk.{full, heads, Bar, barAt, End, missed, met, Outcome, ended, cut, run, Sees}
 use Rattle.meaning.proofs.Lists.{both}
-use Rattle.meaning.proofs.Groups.{full}
-use Rattle.meaning.proofs.Run.{run-quiet, run-hit, run-split, run-top, run-top-short}
-use Rattle.walk.specs.declared.Examined.the-variants.{Last}
+use Rattle.meaning.proofs.Steps.{run-quiet, run-hit, run-split, run-raise, run-none}
+use Rattle.walk.specs.declared.Examined.the-variants.{Next, Witness}
 use Rattle.walk.specs.declared.Ending.the-variants.{Meets, Misses, Unfinished}
 use Rattle.walk.specs.declared.Walked.{Walked}
 use Rattle.rows.specs.Ranges.{Range}
 use Rattle.groups.specs.Groups.{firsts, topGroup, allSingle, firstChild, nextGroup, InWalk}
-use Rattle.walk.specs.Steps.{WalkStep, stepBy, descend, walkEnd, runBy, runFrom}
-use Rattle.walk.specs.Told.{sizes, chosen, AtPaths, Says}
+use Rattle.walk.specs.Steps.{inPlaces, Best, best, WalkStep, stepTo, onwardBy, onward, examine, walkEnd, runOn, runFrom}
+use Rattle.walk.specs.Told.{sizes, chosen, AtPaths, Places, Says}
 use Rattle.groups.proofs.Pending.{Filled, filled-top, walk-child, pending, pending-top, pending-child, FirstPending, next-pending}
 use Rattle.walk.proofs.Paths.{groupOf, group-single, group-first-child, group-second-child, group-top, chosen-heads, firsts-at-paths}
 
-module _ {X : Type 0} where
-  -- the answer r gives an outcome of the walk over paths, with k steps allowed in all
-  abbrev Gives : List (List X) → ℕ → Outcome X → Walked → Type 0
-  Gives Gs k (ended n none) r = r ≡ walkEnd (Meets n) []
-  Gives Gs k (ended n (some w)) r = (ps : List ℕ) × (r ≡ walkEnd (Misses n) ps) × (w ≡ chosen Gs (r .places)) × AtPaths Gs (r .places)
-  Gives Gs k cut r = r ≡ walkEnd (Unfinished k) []
+-- ---- what a step over ranges does
 
-  sizes-full : (Gs : List (List X)) → Filled (sizes Gs) → T (full Gs)
+module _ (fin : List Range → ℕ) (d : ℕ) (ns : List ℕ) (t : Best) (xs : List Range) where
+  examine-quiet : ltb (t .tick) (fin xs) ≡ false → examine fin d ns t xs ≡ onward ns t xs
+  examine-quiet h = rw h
+
+  examine-split : ltb (t .tick) (fin xs) ≡ true → allSingle xs ≡ false → examine fin d ns t xs ≡ stepTo Next t (firstChild xs)
+  examine-split h q = rw h (rw q)
+
+  examine-hit : ltb (t .tick) (fin xs) ≡ true → allSingle xs ≡ true → ltb d (fin xs) ≡ true → examine fin d ns t xs ≡ stepTo Witness t xs
+  examine-hit h q k = rw h (rw q (rw k))
+
+  examine-raise : ltb (t .tick) (fin xs) ≡ true → allSingle xs ≡ true → ltb d (fin xs) ≡ false
+      → examine fin d ns t xs ≡ onward ns (best (fin xs) (inPlaces (firsts xs))) xs
+  examine-raise h q k = rw h (rw q (rw k))
+
+-- ---- the two walks side by side
+
+module _ {X : Type 0} (Gs : List (List X)) where
+  -- the same bar, raised by the same choice
+  pub record SameBar (s : Bar X) (t : Best) : Type 0 where
+    pub tick : s .tick ≡ t .tick
+    pub places : Places Gs (s .choice) (t .places)
+
+  pub same-at : (n : ℕ) → SameBar (barAt n) (best n (inPlaces []))
+  same-at n = record { tick = refl; places = refl }
+
+  -- the answer r gives an outcome of the walk over paths, with k steps allowed in all
+  abbrev Gives : ℕ → Outcome X → Walked → Type 0
+  Gives k (ended n (met s)) r = (t : Best) × SameBar s t × (r ≡ walkEnd (Meets n) (t .tick) (t .places))
+  Gives k (ended n (missed w)) r = (ps : List ℕ) × (r ≡ walkEnd (Misses n) 0 ps) × (w ≡ chosen Gs ps) × AtPaths Gs ps
+  Gives k cut r = (ps : List ℕ) × (r ≡ walkEnd (Unfinished k) 0 ps)
+
+module _ {X : Type 0} where
+  pub sizes-full : (Gs : List (List X)) → Filled (sizes Gs) → T (full Gs)
   sizes-full [] p = tt
   sizes-full (G ∷ Gs) p = both (ltb 0 (length G)) (full Gs) (lt→ltb 0 (length G) (p .0)) (sizes-full Gs (p .1))
 
-module _ {X : Type 0} (load : X → ℕ → ℕ) (e d : ℕ) (Gs : List (List X)) (over : List Range → Bool)
-    (same : (xs : List Range) → InWalk (sizes Gs) xs → over xs ≡ overloads load e d (groupOf Gs xs)) where
+module _ {X : Type 0} (load : X → ℕ → ℕ) (e d : ℕ) (Gs : List (List X)) (fin : List Range → ℕ)
+    (same : (xs : List Range) → InWalk (sizes Gs) xs → fin xs ≡ groupFinish load e d (groupOf Gs xs)) where
   abbrev ns : List ℕ
   ns = sizes Gs
 
@@ -46,74 +71,93 @@ module _ {X : Type 0} (load : X → ℕ → ℕ) (e d : ℕ) (Gs : List (List X)
   behind xs = map (groupOf Gs) (pending ns xs)
 
   -- from the group xs on, with b steps left after n
-  abbrev Alike : ℕ → ℕ → List Range → Type 0
-  Alike b n xs = Gives Gs (n + b) (run load e d b (groupOf Gs xs ∷ behind xs) n) (runFrom over ns b n xs)
+  abbrev Alike : ℕ → ℕ → Bar X → Best → List Range → Type 0
+  Alike b n s t xs = Gives Gs (n + b) (run load e d b s (groupOf Gs xs ∷ behind xs) n) (runFrom fin d ns b n t xs)
 
-  run-none : (b n : ℕ) → run load e d b [] n ≡ ended n none
-  run-none zero n = refl
-  run-none (suc b) n = refl
+  abbrev runStep : ℕ → ℕ → WalkStep → Walked
+  runStep b n x = runOn n (λ (t : Best) (ys : List Range). runFrom fin d ns b (suc n) t ys) x
 
-  -- what a step leaves to do
-  further : (b n : ℕ) (r : Walked) (o p : Outcome X) → o ≡ p → Gives Gs (suc n + b) p r → Gives Gs (n + suc b) o r
-  further b n r o p q g =
+  -- the outcome p of what a step leaves to do, and the step x over ranges
+  further : (b n : ℕ) {o p : Outcome X} {x y : WalkStep} → o ≡ p → x ≡ y → Gives Gs (suc n + b) p (runStep b n y) → Gives Gs (n + suc b) o (runStep b n x)
+  further b n {o} {p} {x} {y} q r g =
       let k : suc n + b ≡ n + suc b = omega arith in
-      subst (λ (m : ℕ). Gives Gs m o r) k (subst (λ (z : Outcome X). Gives Gs (suc n + b) z r) (sym q) g)
+      subst (λ (m : ℕ). Gives Gs m o (runStep b n x)) k (subst (λ (z : Outcome X). Gives Gs (suc n + b) z (runStep b n x))
+      (sym q) (subst (λ (z : WalkStep). Gives Gs (suc n + b) p (runStep b n z)) (sym r) g))
 
   children : (xs : List Range) → InWalk ns xs → allSingle xs ≡ false
-      → Walked.firstChild (groupOf Gs xs) ∷ Walked.secondChild (groupOf Gs xs) ∷ behind xs ≡ groupOf Gs (firstChild xs) ∷ behind (firstChild xs)
+      → Paths.firstChild (groupOf Gs xs) ∷ Paths.secondChild (groupOf Gs xs) ∷ behind xs ≡ groupOf Gs (firstChild xs) ∷ behind (firstChild xs)
   children xs o q =
       sym (ap₂ (λ (l : List (List X)) (z : List (List Range)). l ∷ map (groupOf Gs) z) (group-first-child Gs xs o) (pending-child ns xs o q)
-      ∙ ap (λ (r : List (List X)). Walked.firstChild (groupOf Gs xs) ∷ r ∷ behind xs) (group-second-child Gs xs o))
+      ∙ ap (λ (r : List (List X)). Paths.firstChild (groupOf Gs xs) ∷ r ∷ behind xs) (group-second-child Gs xs o))
 
-  alike : (b n : ℕ) (xs : List Range) → InWalk ns xs → Alike b n xs
-  alike zero n xs o = ap (λ (k : ℕ). walkEnd (Unfinished k) []) (sym (add-zero n))
-  alike (suc b) n xs o = go (over xs) refl (allSingle xs) refl (nextGroup ns xs) (next-pending ns xs o) (λ ys p. alike b (suc n) ys p)
+  -- on to the next group
+  moves : (b n : ℕ) (s : Bar X) (t : Best) → SameBar Gs s t → (xs : List Range) → InWalk ns xs → ((ys : List Range) → InWalk ns ys → Alike b (suc n) s t ys)
+      → Gives Gs (suc n + b) (run load e d b s (behind xs) (suc n)) (runStep b n (onward ns t xs))
+  moves b n s t m xs o ih = go (nextGroup ns xs) (next-pending ns xs o)
     where
-      step-by : WalkStep → Walked
-      step-by s = runBy n (λ (ys : List Range). runFrom over ns b (suc n) ys) (s .told) (s .group)
+      go : (f : Option (List Range)) → FirstPending ns xs f → Gives Gs (suc n + b) (run load e d b s (behind xs) (suc n)) (runStep b n (onwardBy ns t f))
+      go none a =
+          subst (λ (z : Outcome X). Gives Gs (suc n + b) z (runStep b n (onwardBy ns t none)))
+          (sym (ap (λ (z : List (List Range)). run load e d b s (map (groupOf Gs) z) (suc n)) a ∙ run-none load e d b s (suc n))) (t, m, refl)
+      go (some ys) a =
+          subst (λ (z : Outcome X). Gives Gs (suc n + b) z (runStep b n (onwardBy ns t (some ys))))
+          (sym (ap (λ (z : List (List Range)). run load e d b s (map (groupOf Gs) z) (suc n)) (a .1))) (ih ys (a .0))
 
-      go : (v : Bool) → over xs ≡ v → (s : Bool) → allSingle xs ≡ s → (f : Option (List Range)) → FirstPending ns xs f
-          → ((ys : List Range) → InWalk ns ys → Alike b (suc n) ys)
-          → Gives Gs (n + suc b) (run load e d (suc b) (groupOf Gs xs ∷ behind xs) n) (step-by (pick (over xs) (descend xs) (stepBy Last (topGroup ns) f)))
-      go false h s q none a ih =
-          rw h (further b n _ _ _ (run-quiet load e d b n (groupOf Gs xs) (behind xs) (sym (same xs o) ∙ h)
-          ∙ ap (λ (z : List (List Range)). run load e d b (map (groupOf Gs) z) (suc n)) a ∙ run-none b (suc n)) refl)
-      go false h s q (some ys) a ih =
-          rw h (further b n _ _ _ (run-quiet load e d b n (groupOf Gs xs) (behind xs) (sym (same xs o) ∙ h)
-          ∙ ap (λ (z : List (List Range)). run load e d b (map (groupOf Gs) z) (suc n)) (a .1)) (ih ys (a .0)))
-      go true h true q f a ih =
-          rw (h, q) (further b n _ _ _ (run-hit load e d b n (groupOf Gs xs) (behind xs) (sym (same xs o) ∙ h) (group-single Gs xs o ∙ q))
-          (firsts xs, refl, chosen-heads Gs xs _ o q, firsts-at-paths Gs xs _ o))
-      go true h false q f a ih =
-          rw (h, q) (further b n _ _ _ (run-split load e d b n (groupOf Gs xs) (behind xs) (sym (same xs o) ∙ h) (group-single Gs xs o ∙ q)
-          ∙ ap (λ (z : List (List (List X))). run load e d b z (suc n)) (children xs o q)) (ih (firstChild xs) (walk-child ns xs o)))
+  alike : (b n : ℕ) (s : Bar X) (t : Best) → SameBar Gs s t → (xs : List Range) → InWalk ns xs → Alike b n s t xs
+  alike zero n s t m xs o = (t .places, ap (λ (k : ℕ). walkEnd (Unfinished k) 0 (t .places)) (sym (add-zero n)))
+  alike (suc b) n s t m xs o = go (λ s t m ys p. alike b (suc n) s t m ys p) (ltb (t .tick) (fin xs)) refl (allSingle xs) refl (ltb d (fin xs)) refl
+    where
+      g : List (List X)
+      g = groupOf Gs xs
 
-  whole : (b : ℕ) → Filled ns → Gives Gs b (run load e d b (Gs ∷ []) 0) (runFrom over ns b 0 (topGroup ns))
-  whole b p =
-      subst (λ (k : ℕ). Gives Gs k (run load e d b (Gs ∷ []) 0) (runFrom over ns b 0 (topGroup ns))) (zero-add b)
-      (subst (λ (z : List (List (List X))). Gives Gs (0 + b) (run load e d b z 0) (runFrom over ns b 0 (topGroup ns)))
+      late : (v : Bool) → ltb (t .tick) (fin xs) ≡ v → ltb (s .tick) (groupFinish load e d g) ≡ v
+      late v h = ap₂ ltb (m .tick) (sym (same xs o)) ∙ h
+
+      over : (v : Bool) → ltb d (fin xs) ≡ v → ltb d (groupFinish load e d g) ≡ v
+      over v h = ap (ltb d) (sym (same xs o)) ∙ h
+
+      raised : allSingle xs ≡ true → SameBar Gs (record { tick = groupFinish load e d g; choice = some (heads g) }) (best (fin xs) (inPlaces (firsts xs)))
+      raised q = record { tick = sym (same xs o); places = (chosen-heads Gs xs _ o q, firsts-at-paths Gs xs _ o) }
+
+      go : ((s : Bar X) (t : Best) → SameBar Gs s t → (ys : List Range) → InWalk ns ys → Alike b (suc n) s t ys)
+          → (v : Bool) → ltb (t .tick) (fin xs) ≡ v → (u : Bool) → allSingle xs ≡ u → (w : Bool) → ltb d (fin xs) ≡ w → Alike (suc b) n s t xs
+      go ih false h u q w k = further b n (run-quiet load e d b n s g (behind xs) (late false h))
+          (examine-quiet fin d ns t xs h) (moves b n s t m xs o (ih s t m))
+      go ih true h false q w k =
+          further b n (run-split load e d b n s g (behind xs) (late true h) (group-single Gs xs o ∙ q)
+          ∙ ap (λ (z : List (List (List X))). run load e d b s z (suc n)) (children xs o q))
+          (examine-split fin d ns t xs h q) (ih s t m (firstChild xs) (walk-child ns xs o))
+      go ih true h true q true k =
+          further b n (run-hit load e d b n s g (behind xs) (late true h) (group-single Gs xs o ∙ q) (over true k)) (examine-hit fin d ns t xs h q k)
+          (inPlaces (firsts xs), refl, chosen-heads Gs xs _ o q, firsts-at-paths Gs xs _ o)
+      go ih true h true q false k =
+          further b n (run-raise load e d b n s g (behind xs) (late true h) (group-single Gs xs o ∙ q) (over false k)) (examine-raise fin d ns t xs h q k)
+          (moves b n _ _ (raised q) xs o (ih _ _ (raised q)))
+
+  whole : (b : ℕ) (s : Bar X) (t : Best) → SameBar Gs s t → Filled ns → Gives Gs b (run load e d b s (Gs ∷ []) 0) (runFrom fin d ns b 0 t (topGroup ns))
+  whole b s t m p =
+      subst (λ (k : ℕ). Gives Gs k (run load e d b s (Gs ∷ []) 0) (runFrom fin d ns b 0 t (topGroup ns))) (zero-add b)
+      (subst (λ (z : List (List (List X))). Gives Gs (0 + b) (run load e d b s z 0) (runFrom fin d ns b 0 t (topGroup ns)))
       (ap₂ (λ (g : List (List X)) (z : List (List Range)). g ∷ map (groupOf Gs) z) (group-top Gs) (pending-top ns))
-      (alike b 0 (topGroup ns) (filled-top ns p)))
+      (alike b 0 s t m (topGroup ns) (filled-top ns p)))
 
-  -- the whole walk: unfinished with the budget exactly if it is below C, else C, and the witness if there is one
-  pub run-says : (b : ℕ) → Filled ns → (r : Walked) → r ≡ runFrom over ns b 0 (topGroup ns) → Says load e d b Gs (r .ending) (r .places)
-  run-says b p r s = go (ltb b (count load e d Gs)) refl
+  -- the whole walk, from either bar: what the walk over paths sees and comes to, the code's answer says
+  pub run-says : (b bar n : ℕ) (z : End X) → Sees load e d (barAt bar) n z Gs → Filled ns → (r : Walked)
+      → r ≡ runFrom fin d ns b 0 (best bar (inPlaces [])) (topGroup ns) → Says Gs n z b (r .ending) (r .finish) (r .places)
+  run-says b bar n z w p r q = go (decLt b n)
     where
-      gives : (o : Outcome X) → run load e d b (Gs ∷ []) 0 ≡ o → Gives Gs b o r
-      gives o q =
-          subst (λ (z : Walked). Gives Gs b o z) (sym s)
-          (subst (λ (z : Outcome X). Gives Gs b z (runFrom over ns b 0 (topGroup ns))) q (whole b p))
+      gives : (o : Outcome X) → run load e d b (barAt bar) (Gs ∷ []) 0 ≡ o → Gives Gs b o r
+      gives o h = subst (λ (y : Walked). Gives Gs b o y) (sym q) (subst (λ (y : Outcome X).
+          Gives Gs b y (runFrom fin d ns b 0 (best bar (inPlaces [])) (topGroup ns))) h (whole b (barAt bar) (best bar (inPlaces [])) (same-at Gs bar) p))
 
-      finished : count load e d Gs ≤ b → (w : Option (List X)) → witness load e d Gs ≡ w
-          → Gives Gs b (ended (count load e d Gs) w) r → Says load e d b Gs (r .ending) (r .places)
-      finished l none q g = subst (λ (z : Walked). Says load e d b Gs (z .ending) (z .places)) (sym g) (l, refl, q)
-      finished l (some w) q (ps, g, c, a) =
-          rw (ap (λ (z : Walked). z .ending) g) (l, refl, q ∙ ap some c, a)
+      finished : n ≤ b → (y : End X) → z ≡ y → Gives Gs b (ended n y) r → Says Gs n z b (r .ending) (r .finish) (r .places)
+      finished l (met s) h (t, m, g) = subst (λ (x : Walked). Says Gs n z b (x .ending) (x .finish) (x .places))
+          (sym g) (l, refl, (s, h, sym (m .tick), m .places))
+      finished l (missed c) h (ps, g, i, a) = subst (λ (x : Walked). Says Gs n z b (x .ending) (x .finish) (x .places))
+          (sym g) (l, refl, h ∙ ap missed i, a, refl)
 
-      go : (v : Bool) → ltb b (count load e d Gs) ≡ v → Says load e d b Gs (r .ending) (r .places)
-      go true h =
-          let l = ltb-true b (count load e d Gs) h in
-          subst (λ (z : Walked). Says load e d b Gs (z .ending) (z .places)) (sym (gives cut (run-top-short load e d b Gs l))) (l, refl)
-      go false h =
-          let l = ltb-false b (count load e d Gs) h in
-          finished l (witness load e d Gs) refl (gives _ (run-top load e d b Gs (sizes-full Gs p) l))
+      go : Dec (b < n) → Says Gs n z b (r .ending) (r .finish) (r .places)
+      go (yes l) =
+          let g = gives cut (w .short b l) in
+          subst (λ (x : Walked). Says Gs n z b (x .ending) (x .finish) (x .places)) (sym (g .1)) (l, refl, refl)
+      go (no l) = finished (omega arith) z refl (gives (ended n z) (w .enough b (omega arith)))

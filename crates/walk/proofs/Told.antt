@@ -1,44 +1,47 @@
--- What a judge needs: from rows that hold the ranges' loads, and the run's answer on them, to C and the witness.
-use mathlib.Core.Path.{_≡_, sym, ap, ap₂, _∙_}
+-- What a judge needs: from rows that hold the ranges' loads, and the run's answer on them, to what the walk over paths sees and comes to.
+use mathlib.Core.Path.{_≡_, refl, sym, ap, ap₂, _∙_}
 use Prim.Native.Nat.{ℕ, zero, suc, _<_}
 use native.Mathlib.Omega.{arith}
 use mathlib.Core.List.{List, [], _∷_, _++_, append-assoc}
 use lib.ListN.{length, take, drop, getD}
 use lib.Seq.{length-take-le, drop-cons}
+use lib.Dec.{T}
+use Rattle.meaning.specs.Walk.{full, barAt, End, Sees}
 use Rattle.walk.specs.declared.Walked.{Walked}
 use Rattle.groups.specs.Groups.{topGroup}
-use Rattle.walk.specs.Steps.{groupOverloads, runRows}
+use Rattle.walk.specs.Steps.{inPlaces, best, groupFinish, runRows}
 use Rattle.meaning.specs.Bounds.{mostHigher}
 use Rattle.walk.specs.Lent.{Walkable}
 use Rattle.walk.specs.Told.{sizes, chosen, RowsHold, Says}
 use Rattle.groups.proofs.Pending.{filled-top}
 use Rattle.groups.proofs.LaidOut.{counts-filled}
 use Rattle.walk.proofs.Running.{run-places}
-use Rattle.walk.proofs.Paths.{overloads-are}
-use Rattle.walk.proofs.Same.{run-says}
+use Rattle.walk.proofs.Paths.{finishes-are}
+use Rattle.walk.proofs.Same.{sizes-full, run-says}
 
 -- ---- a run over the rows of the top group Gs
 
 module _ {X : Type 0} (load : X → ℕ → ℕ) (Gs : List (List X)) where
-  -- C and the witness, or unfinished exactly if the budget b is below C
+  -- from this bar on: what the walk over paths sees and comes to, or unfinished exactly if the budget b is below that
   pub walk-says : {h d e : ℕ} {root count work : List ℕ} → Walkable h d e root count work → length Gs ≡ h → take h count ≡ sizes Gs
-      → RowsHold load d work root Gs
-      → (b : ℕ) {r : Walked} → r ≡ runRows work d e (take h root) (take h count) b → Says load e d b Gs (r .ending) (r .places)
-  walk-says {d = d} {e} {root} {work = work} w many are rows b {r} q =
+      → RowsHold load d work root Gs → (from n : ℕ) (z : End X) → (T (full Gs) → Sees load e d (barAt from) n z Gs)
+      → (b : ℕ) {r : Walked} → r ≡ runRows work d e (take h root) (take h count) from b → Says Gs n z b (r .ending) (r .finish) (r .places)
+  walk-says {d = d} {e} {root} {work = work} w many are rows from n z sees b {r} q =
       let a = w .stretches .few in
       let c = w .stretches .rootLength in
-      run-says load e d Gs (groupOverloads work d e (take (length Gs) root)) (overloads-are load work d e Gs root (omega arith) rows) b
-      (rw are at (counts-filled (w .stretches))) r (q ∙ ap₂ (λ (k : ℕ) (ns : List ℕ). runRows work d e (take k root) ns b) (sym many) are)
+      let filled = rw are at (counts-filled (w .stretches)) in
+      run-says load e d Gs (groupFinish work d e (take (length Gs) root)) (finishes-are load work d e Gs root (omega arith) rows) b from n z
+      (sees (sizes-full Gs filled)) filled r (q ∙ ap₂ (λ (k : ℕ) (ns : List ℕ). runRows work d e (take k root) ns from b) (sym many) are)
 
 -- a place for each higher task there can be
-pub places-whole : {h d e : ℕ} {root count work : List ℕ} → Walkable h d e root count work → (b : ℕ) {r : Walked}
-    → r ≡ runRows work d e (take h root) (take h count) b → length (r .places) ≡ mostHigher
-places-whole {h} {d} {e} {root} {count} {work} w b q =
+pub places-whole : {h d e : ℕ} {root count work : List ℕ} → Walkable h d e root count work → (from b : ℕ) {r : Walked}
+    → r ≡ runRows work d e (take h root) (take h count) from b → length (r .places) ≡ mostHigher
+places-whole {h} {d} {e} {root} {count} {work} w from b q =
     let a = w .stretches .few in
     let c = w .stretches .countLength in
     ap (λ (z : Walked). length (z .places)) q
-    ∙ run-places (groupOverloads work d e (take h root)) (take h count) (omega (arith, length-take-le h count (omega arith))) b 0 (topGroup (take h count))
-    (filled-top (take h count) (counts-filled (w .stretches)))
+    ∙ run-places (groupFinish work d e (take h root)) d (take h count) (omega (arith, length-take-le h count (omega arith))) b 0 (best from (inPlaces []))
+    (topGroup (take h count)) (filled-top (take h count) (counts-filled (w .stretches))) refl
 
 -- ---- the witness's paths, one after the other
 

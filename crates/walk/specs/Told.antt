@@ -1,12 +1,14 @@
 -- What the walk over rows says of a top group of paths, whatever the paths X and their loads.
 use mathlib.Core.Path.{_≡_}
 use Prim.Native.Nat.{ℕ, suc, _+_, _≤_, _<_}
-use mathlib.Core.Option.{none, some}
+use mathlib.Core.Option.{Option, none, some}
 use mathlib.Core.List.{List, [], _∷_, _++_, map}
 use lib.ListN.{length, take, drop, getD}
-use Rattle.meaning.specs.Groups.{rangeLoad, count, witness}
+use Rattle.meaning.specs.Groups.{rangeLoad}
+use Rattle.meaning.specs.Walk.{Bar, End, missed, met}
 use Rattle.walk.specs.declared.Ending.{Ending}
 use Rattle.walk.specs.declared.Ending.the-variants.{Meets, Misses, Unfinished}
+use Rattle.walk.specs.Steps.{inPlaces}
 use Rattle.rows.specs.Order.{Node}
 use Rattle.rows.specs.Ranges.{Range, range, rowStart}
 
@@ -35,8 +37,15 @@ module _ {X : Type 0} (load : X → ℕ → ℕ) where
       (j : ℕ) → j < length Gs → (f m : ℕ) → Node 0 (length (getD Gs j [])) f m → (t : ℕ) → t < d
       → getD work (rowStart d (getD root j 0) (range f m) + t) 0 ≡ rangeLoad load (partOf (getD Gs j []) (range f m)) (suc t)
 
-  -- unfinished with the budget b exactly if it is below C; else C, and the witness at its places if there is one
-  abbrev pub Says : ℕ → ℕ → ℕ → List (List X) → Ending → List ℕ → Type 0
-  Says e d b Gs (Meets n) ps = (count load e d Gs ≤ b) × (n ≡ count load e d Gs) × (witness load e d Gs ≡ none)
-  Says e d b Gs (Misses n) ps = (count load e d Gs ≤ b) × (n ≡ count load e d Gs) × (witness load e d Gs ≡ some (chosen Gs ps)) × AtPaths Gs ps
-  Says e d b Gs (Unfinished n) ps = (b < count load e d Gs) × (n ≡ b)
+module _ {X : Type 0} where
+  -- these are the places of the choice, if there is one
+  abbrev pub Places : List (List X) → Option (List X) → List ℕ → Type 0
+  Places Gs none ps = ps ≡ inPlaces []
+  Places Gs (some c) ps = (c ≡ chosen Gs ps) × AtPaths Gs ps
+
+  -- of a walk that sees n groups and comes to the end z: unfinished with the budget b exactly if it is below n; else n, and the witness at its places, or
+  -- where the bar is and the choice that raised it
+  abbrev pub Says : List (List X) → ℕ → End X → ℕ → Ending → ℕ → List ℕ → Type 0
+  Says Gs n z b (Meets k) t ps = (n ≤ b) × (k ≡ n) × ((s : Bar X) × (z ≡ met s) × (t ≡ s .tick) × Places Gs (s .choice) ps)
+  Says Gs n z b (Misses k) t ps = (n ≤ b) × (k ≡ n) × (z ≡ missed (chosen Gs ps)) × AtPaths Gs ps × (t ≡ 0)
+  Says Gs n z b (Unfinished k) t ps = (b < n) × (k ≡ b) × (t ≡ 0)

@@ -1,7 +1,8 @@
 //! Writes the tables whose judging docs/COST.md counts: a sequence as `second cases` reads it.
 //!
 //! The first argument is a family: `small` tables like R1, `paper` tables like those of source document 001, section 8.1, or `heavy` ones,
-//! with many groups. With `few`, the bench examples and some tables of each family. A second argument gives another seed.
+//! with many groups. With `few`, the bench examples and some tables of each family. A second argument gives another seed. With `latest` before
+//! them, each table is asked how late every vertex's latest is.
 
 #![forbid(unsafe_code)]
 
@@ -9,7 +10,7 @@ mod made;
 
 use made::{bench, random_task, self_edge, task, text, Random, Size};
 use second::bounds::{BUDGET, D, MOST_WORK_CELLS, WITNESS_CELLS};
-use second::case::UNMARKED;
+use second::case::{FINISHES, UNMARKED};
 use second::judge::{judge, Verdict};
 use second::sequence::write_sequence;
 use second::table::{TaskNo, VertexNo};
@@ -34,18 +35,22 @@ const SMALL: Size = Size {
 fn main() -> io::Result<()> {
     let arguments: Vec<_> = env::args().skip(1).collect();
     let words: Vec<_> = arguments.iter().map(String::as_str).collect();
-    let texts = match words.as_slice() {
+    let (mode, words) = match words.as_slice() {
+        ["latest", words @ ..] => (FINISHES, words),
+        words => (UNMARKED, words),
+    };
+    let texts = match words {
         [family] => family_of(family, SEED),
         [family, seed] => seed.parse().ok().and_then(|seed| family_of(family, seed)),
         _ => None,
     };
     let Some(texts) = texts else {
         return Err(io::Error::other(
-            "usage: tables_for_cost small | paper | heavy | few [SEED]",
+            "usage: tables_for_cost [latest] small | paper | heavy | few [SEED]",
         ));
     };
     let texts: Vec<_> = texts.into_iter().map(String::into_bytes).collect();
-    write_sequence(UNMARKED, texts)
+    write_sequence(mode, texts)
 }
 
 /// The tables of a family, if there is one of this name.

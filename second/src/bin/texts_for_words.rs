@@ -104,7 +104,7 @@ fn ends(texts: &mut Vec<Vec<u8>>) {
     }
 }
 
-/// Refusal 9 of a task that isn't the first, refusal 10, one tick and one group, and the longest paths.
+/// Refusal 9 of a task that isn't the first, refusal 10, one tick and one group, the longest paths, and a worst finish that isn't found.
 fn verdicts(texts: &mut Vec<Vec<u8>>) {
     let few = self_edge(1, 5, 5);
     let below = task(&[(1, 31), (40, 21)], &[]);
@@ -112,11 +112,15 @@ fn verdicts(texts: &mut Vec<Vec<u8>>) {
     longest.push(task(&[(1, 200)], &[]));
     let mut cells = vec![bench::r10(4); 4];
     cells.push(task(&[(1, 21), (1, 20)], &[]));
+    let mut not_found = vec![task(&[(1, 9); 12], &[]); 4];
+    not_found.push(task(&[(3, 9), (1, 6), (4, 9)], &[(1, 2, 6)]));
+    not_found.push(task(&[(1, 10)], &[]));
     let tables = [
         vec![few, bench::r10(4), below],
         cells,
         vec![task(&[(1, 1), (2, 1), (3, 1)], &[]), task(&[(1, 1)], &[])],
         longest,
+        not_found,
     ];
     texts.extend(tables.map(|tasks| text(&tasks).into_bytes()));
 }

@@ -1,4 +1,4 @@
-//! Document 01's definitions, tried out in full: slow, and sharing nothing with the program.
+//! Document 01's definitions and wish 1's finish, tried out in full: slow, and sharing nothing with the program.
 
 use super::Task;
 
@@ -121,6 +121,62 @@ pub fn least_overloading(e: u32, d: u32, higher: &[Vec<Vec<u32>>]) -> Option<Vec
         choice[at] += 1;
         choice[at + 1..].fill(0);
     }
+}
+
+/// The first t from 1 to d at which e and the loads are at most t; none if they overload.
+pub fn finish(e: u32, loads: &[u32], d: u32) -> Option<u32> {
+    (1..=d).find(|&t| e + loads[t as usize - 1] <= t)
+}
+
+/// The largest finish over all choices of one path from each task; none if some choice overloads.
+///
+/// More load never finishes earlier, so of the sums so far only those matter that no other reaches at every tick.
+pub fn worst_finish(e: u32, d: u32, higher: &[Vec<Vec<u32>>]) -> Option<u32> {
+    let mut sums = vec![vec![0; d as usize]];
+    for rows in higher {
+        let all = sums
+            .iter()
+            .flat_map(|sum| rows.iter().map(|row| add(sum, row)));
+        sums = undominated(all.collect());
+    }
+    let finishes: Option<Vec<u32>> = sums.iter().map(|sum| finish(e, sum, d)).collect();
+    finishes?.into_iter().max()
+}
+
+/// The first choice in path order that reaches the largest finish, as places in the lists of loads; none if some choice overloads.
+///
+/// Task by task, the first path with which some choice of the others is as late.
+pub fn first_latest(e: u32, d: u32, higher: &[Vec<Vec<u32>>]) -> Option<Vec<usize>> {
+    let worst = worst_finish(e, d, higher)?;
+    let mut left = higher.to_vec();
+    let mut choice = Vec::new();
+    for (task, rows) in higher.iter().enumerate() {
+        let mut is_latest = |row: &Vec<u32>| {
+            left[task] = vec![row.clone()];
+            worst_finish(e, d, &left) == Some(worst)
+        };
+        choice.push(rows.iter().position(&mut is_latest)?);
+    }
+    Some(choice)
+}
+
+/// Two rows of loads, tick by tick.
+fn add(a: &[u32], b: &[u32]) -> Vec<u32> {
+    a.iter().zip(b).map(|(a, b)| a + b).collect()
+}
+
+/// The rows without those that another one reaches at every tick; of equal ones the first.
+fn undominated(mut rows: Vec<Vec<u32>>) -> Vec<Vec<u32>> {
+    // A row that reaches another one has no smaller total, so it is kept first.
+    rows.sort_by_key(|row| std::cmp::Reverse(row.iter().sum::<u32>()));
+    let mut kept: Vec<Vec<u32>> = Vec::new();
+    for row in rows {
+        let reaches = |other: &Vec<u32>| other.iter().zip(&row).all(|(a, b)| a >= b);
+        if !kept.iter().any(reaches) {
+            kept.push(row);
+        }
+    }
+    kept
 }
 
 /// C by its definition: the groups all of whose parents overload, not after the witness.

@@ -3,6 +3,7 @@
 #![allow(dead_code)]
 
 pub mod definitions;
+pub mod lateness;
 pub mod random;
 pub mod sheet;
 
@@ -111,6 +112,20 @@ pub fn work_area(cells: usize) -> Vec<u32> {
 /// Cells filled with 1, 2, 3 and so on, so that any change shows.
 pub fn witness_area(cells: usize) -> Vec<u16> {
     (1..).take(cells).collect()
+}
+
+/// A work area whose front cells are zero and whose rest is unchanged.
+pub fn zeroed(front: usize, cells: usize) -> Vec<u32> {
+    let mut work = work_area(cells);
+    work[..front].fill(0);
+    work
+}
+
+/// A witness area whose front holds these cells and whose rest is unchanged.
+pub fn written(front: &[u16], cells: usize) -> Vec<u16> {
+    let mut witness = witness_area(cells);
+    witness[..front.len()].copy_from_slice(front);
+    witness
 }
 
 /// A verdict without its areas: what the judge says with these lengths lent.

@@ -1,3 +1,4 @@
+use Rattle.meaning.specs.Verdict.{plain}
 use Rattle.host.proofs.Wide.{wide-judged}
 use borrow.Author.Needs.{needs}
 use Rattle.host.proofs.tectavirio_judge.Statement.{statement}
@@ -36,7 +37,7 @@ returns c =
     record {
       verdict = was .judge .result;
       judged =
-          wide-judged (s .text .now) (s .task) (s .vertex) (s .budget) (task .narrow .ensures) (vertex .narrow2 .ensures) (was .judge .ensures);
+          wide-judged plain (s .text .now) (s .task) (s .vertex) (s .budget) (task .narrow .ensures) (vertex .narrow2 .ensures) (was .judge .ensures);
       number-is = c .verdict-number .ensures;
       value-is = c .before .before .verdict-value .ensures;
       place-is = c .before .verdict-place .ensures;

@@ -20,6 +20,9 @@ slice-aggregate-run c = sym (length-take-le _ ((c .before .before .before .befor
 cast-run : tie.Need-cast-run
 cast-run c = search needs
 
+cast-run-2 : tie.Need-cast-run-2
+cast-run-2 c = search needs
+
 run-requires : tie.Need-run-requires
 run-requires c κs = search needs
 
@@ -41,6 +44,7 @@ search-spec =
     slice-reshare-prefix-run
     slice-aggregate-run
     cast-run
+    cast-run-2
     run-requires
     clear-requires
     same-length

@@ -1,10 +1,11 @@
-//! What the generators share: lines of a text, the bench examples, the refusals of a text, and a pseudo-random generator.
+//! What the generators share: lines of a text, the bench examples, the refusals of a text, cases of one vertex, and a pseudo-random generator.
 
 // No generator uses all of it.
 #![allow(dead_code)]
 
 pub mod bench;
 pub mod refusals;
+pub mod vertices;
 
 /// A task frame's line.
 fn task_line(vertices: usize, edges: usize) -> String {

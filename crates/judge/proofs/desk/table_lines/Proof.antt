@@ -46,7 +46,7 @@ vertex-lines-requires : tie.Need-vertex-lines-requires Inv-loop μ-loop
 vertex-lines-requires c κs =
     let said = c .before .before .before .before in
     let test = said .before .before .before .before .before in
-    lines-ask (test .before .before .loop .inv) (test .if1 .taken) (said .judge-vertex .ensures)
+    lines-ask (test .before .before .loop .inv) (test .if1 .taken) (said .judge-vertex .ensures .answered)
 
 counted-requires : tie.Need-counted-requires Inv-loop μ-loop
 counted-requires c κs =
@@ -81,7 +81,7 @@ loop-again c =
     let said = put .before .before .before .before .before in
     let test = said .before .before .before .before .before in
     let here = test .before .before .loop .inv in
-    desking-more here (test .if1 .taken) (said .judge-vertex .ensures) (put .vertex-lines .ensures) (search needs) (search needs)
+    desking-more here (test .if1 .taken) (said .judge-vertex .ensures .answered) (put .vertex-lines .ensures) (search needs) (search needs)
     (c .before .before .before .counted .ensures) (so-far-after (here .so-far) (test .if1 .taken) (c .next-place .ensures))
 
 counts-line-requires : tie.Need-counts-line-requires Inv-loop μ-loop

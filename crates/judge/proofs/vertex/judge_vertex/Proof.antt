@@ -3,42 +3,45 @@ use native.Mathlib.Omega.{arith}
 use borrow.Author.Needs.{needs}
 use Rattle.meaning.specs.Table.{higher}
 use Rattle.table.specs.Inner.{tableOf}
+use Rattle.search.specs.Meant.{askedBy}
 use Rattle.table.proofs.Records.{held-few}
 use Rattle.meaning.specs.Bounds.{mostVertices}
 use Rattle.table.proofs.Vertices.{ownTask, own-few}
 use Rattle.judge.proofs.Higher.{CountedTo, FilledTo}
-use Rattle.judge.proofs.OneVertex.{Asked, AllCounted, RowsPassed, AllFilled, Ran}
+use Rattle.judge.proofs.OneVertex.{Asked, AllCounted, RowsPassed, AllFilled, Ran, AllWritten}
 use Rattle.judge.proofs.OneVertex.{task-in, vertex-in, counting-none, count-asks, answer-9, with-paths-asks, counting-more, area-asks, answer-areas}
 use Rattle.judge.proofs.OneVertex.{filling-none}
-use Rattle.judge.proofs.OneVertex.{stretch-asks, filling-more, search-asks, missing-none, write-asks, missing-more, missing-all, cells-few}
-use Rattle.judge.proofs.OneVertex.{answer-meets, answer-unfinished, answer-misses}
+use Rattle.judge.proofs.OneVertex.{stretch-asks, filling-more, search-asks, ran-is, shown-within, writing-none, write-asks, writing-more, writing-all}
+use Rattle.judge.proofs.OneVertex.{cells-few}
+use Rattle.judge.proofs.OneVertex.{answer-walked}
 use Rattle.judge.proofs.Missing.{MissTo}
 use Rattle.judge.proofs.vertex.judge_vertex.Statement.{statement}
 use Rattle.judge.proofs.vertex.judge_vertex.Tie as tie
 
 abbrev Inv-loop : tie.InvT-loop
-Inv-loop budget work witness t h job above₀ j₀ above j = CountedTo (higher (tableOf t) h) h (job .d .0) above j
+Inv-loop budget late work witness t h job above₀ j₀ above j = CountedTo (higher (tableOf t) h) h (job .d .0) above j
 
 abbrev μ-loop : tie.MeasureT-loop
-μ-loop budget work witness t h job above₀ j₀ above j = h - j
+μ-loop budget late work witness t h job above₀ j₀ above j = h - j
 
 abbrev Inv-loop2 : tie.InvT-loop2
-Inv-loop2 budget work₀ witness t h job above j k₀ work k = FilledTo (higher (tableOf t) h) h (job .d .0) work₀ work k
+Inv-loop2 budget late work₀ witness t h job above j k₀ work k = FilledTo (higher (tableOf t) h) h (job .d .0) work₀ work k
 
 abbrev μ-loop2 : tie.MeasureT-loop2
-μ-loop2 budget work₀ witness t h job above j k₀ work k = h - k
+μ-loop2 budget late work₀ witness t h job above j k₀ work k = h - k
 
 abbrev Inv-loop3 : tie.InvT-loop3
-Inv-loop3 budget work witness₀ t h job j k ending places cells₀ i₀ witness cells i =
-    MissTo (higher (tableOf t) h) h (job .d .0) places witness₀ witness cells i
+Inv-loop3 budget late work witness₀ t h job j k walked ending places shown cells₀ i₀ witness cells i =
+    MissTo (higher (tableOf t) h) h (job .d .0) places witness₀ witness cells i × (i ≤ shown)
 
 abbrev μ-loop3 : tie.MeasureT-loop3
-μ-loop3 budget work witness₀ t h job j k ending places cells₀ i₀ witness cells i = h - i
+μ-loop3 budget late work witness₀ t h job j k walked ending places shown cells₀ i₀ witness cells i = shown - i
 
 -- what the call was asked
 abbrev asked : tie.Start Inv-loop μ-loop Inv-loop2 μ-loop2 Inv-loop3 μ-loop3 → Asked
 asked entry =
     record {
+      asks = askedBy (entry .args .late);
       table = entry .args .t1;
       held = entry .pre .0;
       task = entry .args .task .0;
@@ -60,8 +63,22 @@ rows-passed c = record { rows = c .before .before .area-rows .result; are = c .b
 abbrev filled-all : (c : tie.After-loop2 Inv-loop μ-loop Inv-loop2 μ-loop2 Inv-loop3 μ-loop3) → AllFilled _ _ (rows-passed (c .before .before))
 filled-all c = record { cells = c .before .loop2 .work; upTo = c .before .loop2 .k; filled = c .before .loop2 .inv; full = c .loop2-test .left }
 
-abbrev ran : (c : tie.After-search Inv-loop μ-loop Inv-loop2 μ-loop2 Inv-loop3 μ-loop3) → Ran _ _ _ (filled-all (c .before .before))
-ran c = record { result = c .search .result; is = c .search .ensures .0 }
+abbrev ran : (c : tie.After-search Inv-loop μ-loop Inv-loop2 μ-loop2 Inv-loop3 μ-loop3) → Ran _ _ _ (filled-all (c .before .before .before))
+ran c =
+    record {
+      result = c .search .result;
+      is = ran-is _ _ _ (filled-all (c .before .before .before)) (c .before .before .first-bar .ensures) (c .search .ensures .0);
+    }
+
+-- where the paths are written, the walk behind it, and what is written then
+abbrev searched-at : tie.After-loop3 Inv-loop μ-loop Inv-loop2 μ-loop2 Inv-loop3 μ-loop3 → tie.After-search Inv-loop μ-loop Inv-loop2 μ-loop2 Inv-loop3 μ-loop3
+searched-at c = c .before .before .before .before .before .before
+
+abbrev all-written : (c : tie.After-loop3 Inv-loop μ-loop Inv-loop2 μ-loop2 Inv-loop3 μ-loop3)
+    → AllWritten _ _ _ _ (ran (searched-at c)) (c .before .loop3 .witness) (c .before .loop3 .cells)
+all-written c =
+    let writing = c .before in
+    writing-all _ _ _ _ (ran (searched-at c)) (writing .before .written-paths .ensures) (writing .loop3 .inv .0) (writing .loop3 .inv .1) (c .loop3-test .left)
 
 cast-h : tie.Need-cast-h Inv-loop μ-loop Inv-loop2 μ-loop2 Inv-loop3 μ-loop3
 cast-h c = search needs
@@ -119,15 +136,18 @@ cast-crowded c = search needs
 too-many-paths-requires : tie.Need-too-many-paths-requires Inv-loop μ-loop Inv-loop2 μ-loop2 Inv-loop3 μ-loop3
 too-many-paths-requires c κs = search needs
 
+alone-requires : tie.Need-alone-requires Inv-loop μ-loop Inv-loop2 μ-loop2 Inv-loop3 μ-loop3
+alone-requires c κs = search needs
+
 returns : tie.Need-returns Inv-loop μ-loop Inv-loop2 μ-loop2 Inv-loop3 μ-loop3
 returns c =
-    let at-if1 = c .before in
+    let at-if1 = c .before .before in
     let listed = at-if1 .before in
     let counted = listed .before .before in
     let counting = counted .before in
     let entry = counting .before .before .before .before .before .before .before .before .before in
     answer-9 (asked entry) (counting .loop .above) (counting .loop .j) (counting .loop .inv) _ (counted .loop-test .taken)
-    (listed .path-count .result) (listed .path-count .ensures) (at-if1 .if1 .taken) (c .too-many-paths .ensures)
+    (listed .path-count .result) (listed .path-count .ensures) (at-if1 .if1 .taken) (c .alone .ensures) (c .before .too-many-paths .ensures)
 
 with-paths-requires : tie.Need-with-paths-requires Inv-loop μ-loop Inv-loop2 μ-loop2 Inv-loop3 μ-loop3
 with-paths-requires c κs =
@@ -161,12 +181,15 @@ area-rows-requires c κs =
 enum-known-rows : tie.Need-enum-known-rows Inv-loop μ-loop Inv-loop2 μ-loop2 Inv-loop3 μ-loop3
 enum-known-rows c = search needs
 
+alone-requires-2 : tie.Need-alone-requires-2 Inv-loop μ-loop Inv-loop2 μ-loop2 Inv-loop3 μ-loop3
+alone-requires-2 c κs = search needs
+
 returns-2 : tie.Need-returns-2 Inv-loop μ-loop Inv-loop2 μ-loop2 Inv-loop3 μ-loop3
 returns-2 c =
-    let at-rows = c .before in
+    let at-rows = c .before .before in
     let sheet = at-rows .before .before in
     let counted = sheet .before in
-    answer-areas _ (counted-all counted) (sheet .area-rows .ensures) (at-rows .rows .given .1)
+    answer-areas _ (counted-all counted) (sheet .area-rows .ensures) (at-rows .rows .given .1) (c .alone2 .ensures)
 
 enum-told : tie.Need-enum-told Inv-loop μ-loop Inv-loop2 μ-loop2 Inv-loop3 μ-loop3
 enum-told c = search needs
@@ -214,30 +237,21 @@ loop2-again c =
     let passed = filling .before in
     filling-more _ _ (rows-passed passed) _ (filling .loop2 .inv) (filled .loop2-test .taken) (at-fill-stretch .fill-stretch .ensures)
 
+first-bar-requires : tie.Need-first-bar-requires Inv-loop μ-loop Inv-loop2 μ-loop2 Inv-loop3 μ-loop3
+first-bar-requires c κs = search needs
+
 search-requires : tie.Need-search-requires Inv-loop μ-loop Inv-loop2 μ-loop2 Inv-loop3 μ-loop3
 search-requires c κs =
-    let filled = c .before in
+    let filled = c .before .before in
     search-asks _ _ _ (filled-all filled)
 
-enum-told-2 : tie.Need-enum-told-2 Inv-loop μ-loop Inv-loop2 μ-loop2 Inv-loop3 μ-loop3
-enum-told-2 c = search needs
-
-said-requires : tie.Need-said-requires Inv-loop μ-loop Inv-loop2 μ-loop2 Inv-loop3 μ-loop3
-said-requires c κs = search needs
-
-enum-told-3 : tie.Need-enum-told-3 Inv-loop μ-loop Inv-loop2 μ-loop2 Inv-loop3 μ-loop3
-enum-told-3 c = search needs
-
-said-requires-2 : tie.Need-said-requires-2 Inv-loop μ-loop Inv-loop2 μ-loop2 Inv-loop3 μ-loop3
-said-requires-2 c κs = search needs
-
-enum-told-4 : tie.Need-enum-told-4 Inv-loop μ-loop Inv-loop2 μ-loop2 Inv-loop3 μ-loop3
-enum-told-4 c = search needs
+written-paths-requires : tie.Need-written-paths-requires Inv-loop μ-loop Inv-loop2 μ-loop2 Inv-loop3 μ-loop3
+written-paths-requires c κs = search needs
 
 loop3-holds : tie.Need-loop3-holds Inv-loop μ-loop Inv-loop2 μ-loop2 Inv-loop3 μ-loop3
 loop3-holds c =
-    let searched = c .before .before .before .before .before in
-    missing-none _ _ _ _ (ran searched)
+    let searched = c .before .before .before .before in
+    writing-none _ _ _ _ (ran searched) (c .written-paths .ensures)
 
 mul-next-3 : tie.Need-mul-next-3 Inv-loop μ-loop Inv-loop2 μ-loop2 Inv-loop3 μ-loop3
 mul-next-3 c = search needs
@@ -249,16 +263,17 @@ mul-write-place : tie.Need-mul-write-place Inv-loop μ-loop Inv-loop2 μ-loop2 I
 mul-write-place c = search needs
 
 array-read-write-place : tie.Need-array-read-write-place Inv-loop μ-loop Inv-loop2 μ-loop2 Inv-loop3 μ-loop3
-array-read-write-place c = search needs
+array-read-write-place c =
+    let showing = c .before .before .before .before in
+    omega (arith, shown-within _ _ _ _ (ran (showing .before .before .before .before)) (showing .written-paths .ensures))
 
 write-place-requires : tie.Need-write-place-requires Inv-loop μ-loop Inv-loop2 μ-loop2 Inv-loop3 μ-loop3
 write-place-requires c κs =
     let written = c .before .before in
     let writing = written .before in
-    let missed = writing .before .before in
-    let searched = missed .before .before .before .before in
-    write-asks _ _ _ _ (ran searched) _ (writing .loop3 .inv) (written .loop3-test .taken) (missed .enum-told4 .given .0 .0)
-    (missed .enum-told4 .given .1)
+    let showing = writing .before in
+    let searched = showing .before .before .before .before in
+    write-asks _ _ _ _ (ran searched) (showing .written-paths .ensures) _ (writing .loop3 .inv .0) (written .loop3-test .taken)
 
 add-i : tie.Need-add-i Inv-loop μ-loop Inv-loop2 μ-loop2 Inv-loop3 μ-loop3
 add-i c = search needs
@@ -271,57 +286,26 @@ loop3-again c =
     let wrote = c .before .before in
     let written = wrote .before .before .before in
     let writing = written .before in
-    let searched = writing .before .before .before .before .before .before in
-    missing-more _ _ _ _ (ran searched) _ (writing .loop3 .inv) (written .loop3-test .taken) (wrote .write-place .ensures)
+    let showing = writing .before in
+    let searched = showing .before .before .before .before in
+    writing-more _ _ _ _ (ran searched) (showing .written-paths .ensures) _ (writing .loop3 .inv .0) (written .loop3-test .taken) (wrote .write-place .ensures)
 
-said-requires-3 : tie.Need-said-requires-3 Inv-loop μ-loop Inv-loop2 μ-loop2 Inv-loop3 μ-loop3
-said-requires-3 c κs =
-    let writing = c .before in
-    let searched = writing .before .before .before .before .before .before in
-    let all = (
-    missing-all _ _ _ _ (ran searched) (writing .loop3 .inv) (c .loop3-test .left)
-    ) in
-    cells-few _ _ _ _ (ran searched) (all .1)
+said-requires : tie.Need-said-requires Inv-loop μ-loop Inv-loop2 μ-loop2 Inv-loop3 μ-loop3
+said-requires c κs = cells-few _ _ _ _ (ran (searched-at c)) (all-written c)
+
+cast-t78 : tie.Need-cast-t78 Inv-loop μ-loop Inv-loop2 μ-loop2 Inv-loop3 μ-loop3
+cast-t78 c = let few = cells-few _ _ _ _ (ran (searched-at (c .before))) (all-written (c .before)) in omega arith
 
 same-length : tie.Need-same-length Inv-loop μ-loop Inv-loop2 μ-loop2 Inv-loop3 μ-loop3
 same-length c = search needs
 
+same-length-2 : tie.Need-same-length-2 Inv-loop μ-loop Inv-loop2 μ-loop2 Inv-loop3 μ-loop3
+same-length-2 c = c .before .before .loop3 .inv .0 .gathered .same
+
 returns-3 : tie.Need-returns-3 Inv-loop μ-loop Inv-loop2 μ-loop2 Inv-loop3 μ-loop3
 returns-3 c =
-    let met = c .before in
-    let searched = met .before .before .before .before in
-    answer-meets _ _ _ _ (ran searched) (searched .search .last .0) (searched .search .ensures .1) (met .enum-told2 .given .0 .0)
-    (met .enum-told2 .given .1) (c .said .ensures)
-
-same-length-2 : tie.Need-same-length-2 Inv-loop μ-loop Inv-loop2 μ-loop2 Inv-loop3 μ-loop3
-same-length-2 c = search needs
-
-returns-4 : tie.Need-returns-4 Inv-loop μ-loop Inv-loop2 μ-loop2 Inv-loop3 μ-loop3
-returns-4 c =
-    let cut = c .before in
-    let searched = cut .before .before .before .before in
-    answer-unfinished _ _ _ _ (ran searched) (searched .search .last .0) (searched .search .ensures .1) (cut .enum-told3 .given .0 .0)
-    (cut .enum-told3 .given .1) (c .said2 .ensures)
-
-same-length-3 : tie.Need-same-length-3 Inv-loop μ-loop Inv-loop2 μ-loop2 Inv-loop3 μ-loop3
-same-length-3 c = search needs
-
-same-length-4 : tie.Need-same-length-4 Inv-loop μ-loop Inv-loop2 μ-loop2 Inv-loop3 μ-loop3
-same-length-4 c =
-    let writing = c .before .before in
-    writing .loop3 .inv .gathered .same
-
-returns-5 : tie.Need-returns-5 Inv-loop μ-loop Inv-loop2 μ-loop2 Inv-loop3 μ-loop3
-returns-5 c =
-    let written = c .before in
-    let writing = written .before in
-    let missed = writing .before .before in
-    let searched = missed .before .before .before .before in
-    let all = (
-    missing-all _ _ _ _ (ran searched) (writing .loop3 .inv) (written .loop3-test .left)
-    ) in
-    answer-misses _ _ _ _ (ran searched) (searched .search .last .0) (searched .search .ensures .1) (missed .enum-told4 .given .0 .0)
-    (missed .enum-told4 .given .1) (writing .loop3 .cells) (writing .loop3 .witness) all (c .said3 .ensures)
+    let searched = searched-at (c .before) in
+    answer-walked _ _ _ _ (ran searched) (searched .search .ensures .1) (all-written (c .before)) (c .said .ensures)
 
 pub judge-vertex-spec : {M : Type 1} → statement M
 judge-vertex-spec =
@@ -347,6 +331,7 @@ judge-vertex-spec =
     path-count-requires
     cast-crowded
     too-many-paths-requires
+    alone-requires
     returns
     with-paths-requires
     add-j
@@ -354,6 +339,7 @@ judge-vertex-spec =
     loop-again
     area-rows-requires
     enum-known-rows
+    alone-requires-2
     returns-2
     enum-told
     loop2-holds
@@ -367,12 +353,9 @@ judge-vertex-spec =
     add-k
     loop2-less
     loop2-again
+    first-bar-requires
     search-requires
-    enum-told-2
-    said-requires
-    enum-told-3
-    said-requires-2
-    enum-told-4
+    written-paths-requires
     loop3-holds
     mul-next-3
     element-copy-out-next-3
@@ -382,11 +365,8 @@ judge-vertex-spec =
     add-i
     loop3-less
     loop3-again
-    said-requires-3
+    said-requires
+    cast-t78
     same-length
-    returns-3
     same-length-2
-    returns-4
-    same-length-3
-    same-length-4
-    returns-5)
+    returns-3)

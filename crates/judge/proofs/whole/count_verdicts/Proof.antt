@@ -70,7 +70,8 @@ loop-again c =
     let said = c .before .before .before .before .before .before .before in
     let test = said .before .before .before .before .before in
     let here = test .before .before .loop .inv in
-    judged-more here (test .if1 .taken) (said .judge-vertex .ensures) (search needs) (search needs) (c .before .before .before .counted .ensures)
+    judged-more here (test .if1 .taken) (said .judge-vertex .ensures) (said .judge-vertex .kept .1 .1 .1 .1 .1 .0)
+    (said .judge-vertex .kept .1 .1 .1 .1 .1 .1 .0) (c .before .before .before .counted .ensures)
     (so-far-after (here .so-far) (test .if1 .taken) (c .next-place .ensures))
 
 same-length : tie.Need-same-length Inv-loop μ-loop
