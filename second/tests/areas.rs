@@ -1,8 +1,6 @@
 //! The lent areas and the budgets: what they hold after each verdict.
 
-mod common;
-
-use common::*;
+use crate::common::*;
 use second::judge::{judge, judge_table, Counts, Verdict};
 use second::table::{TaskNo, VertexNo};
 

@@ -1,8 +1,6 @@
 //! The bench examples R1 to R11 of document 01, and a few tables worked out by hand.
 
-mod common;
-
-use common::*;
+use crate::common::{self, *};
 use second::desk;
 use second::judge::{judge_table, Verdict};
 use second::paths::{complete_paths, Path};

@@ -1,8 +1,6 @@
 //! The cases that the judge is checked with, and their lines.
 
-mod common;
-
-use common::{answered_lines, cases_of, r1, r5, run, text};
+use crate::common::{answered_lines, cases_of, r1, r5, run, text};
 use second::case::{Case, HEADER_BYTES, TABLE, VERTEX};
 use second::sequence::MOST_BYTES;
 use std::process::Command;

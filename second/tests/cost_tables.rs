@@ -1,8 +1,6 @@
 //! The tables that the cost of judging is counted with: each family is what it says.
 
-mod common;
-
-use common::{answered_lines, judged, texts_of};
+use crate::common::{answered_lines, judged, texts_of};
 use second::bounds::{BUDGET, MOST_WORK_CELLS, WITNESS_CELLS};
 use second::case::{FINISHES, UNMARKED};
 use second::sequence::MOST_BYTES;

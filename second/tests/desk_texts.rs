@@ -1,8 +1,6 @@
 //! The texts that the desk is checked with: every answer occurs among them.
 
-mod common;
-
-use common::{answered, outputs_of, r1, text, texts_of};
+use crate::common::{answered, outputs_of, r1, text, texts_of};
 use second::case::DESK;
 use second::sequence::MOST_BYTES;
 use std::process::Command;

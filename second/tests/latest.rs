@@ -1,9 +1,7 @@
 //! How late is the latest: tables worked out by hand.
 
-mod common;
-
-use common::lateness::{assert_refused, latest_in, meets, misses, unfinished, Found};
-use common::*;
+use crate::common::lateness::{assert_refused, latest_in, meets, misses, unfinished, Found};
+use crate::common::*;
 use second::judge::Verdict;
 use second::latest::latest;
 use second::refusal::Row;

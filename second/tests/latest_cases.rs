@@ -1,8 +1,6 @@
 //! The cases that the worst finish is checked with, and their lines.
 
-mod common;
-
-use common::{answered_lines, cases_of};
+use crate::common::{answered_lines, cases_of};
 use second::case::{Case, FINISH};
 use std::process::Command;
 

@@ -1,11 +1,9 @@
 //! How late is the latest: random tables against the definitions tried out in full.
 
-mod common;
-
-use common::definitions::{complete_paths, count_paths, loads, Path};
-use common::lateness::{assert_refused, latest_in, meets, misses, unfinished, Found};
-use common::random::{table, Random, Size};
-use common::*;
+use crate::common::definitions::{complete_paths, count_paths, loads, Path};
+use crate::common::lateness::{assert_refused, latest_in, meets, misses, unfinished, Found};
+use crate::common::random::{table, Random, Size};
+use crate::common::*;
 use second::judge::{judge, Verdict};
 use second::table::{TaskNo, VertexNo};
 

@@ -1,8 +1,6 @@
 //! The page on writing tables has the bounds and the refusals as the judge has them, and with README what is said without a worst finish.
 
-mod common;
-
-use common::*;
+use crate::common::*;
 use second::bounds::*;
 use second::refusal::Row;
 use second::words::words;

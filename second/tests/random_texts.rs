@@ -1,11 +1,9 @@
 //! Random and damaged texts, each checked against document 01's definitions tried out in full.
 
-mod common;
-
-use common::definitions::*;
-use common::random::{damage, frames, noise, table, Random, Size};
-use common::sheet::tasks_or_refusal;
-use common::{text, witness_area, work_area, Task};
+use crate::common::definitions::*;
+use crate::common::random::{damage, frames, noise, table, Random, Size};
+use crate::common::sheet::tasks_or_refusal;
+use crate::common::{text, witness_area, work_area, Task};
 use second::desk;
 use second::judge::{judge, judge_table, Counts, Verdict};
 use second::table::{TaskNo, VertexNo};

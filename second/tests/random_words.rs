@@ -1,12 +1,10 @@
 //! The words of random tables against the desk's frames, their numbers worked out by the definitions of document 01 and wish 1.
 
-mod common;
-
-use common::definitions::{
+use crate::common::definitions::{
     complete_paths, count_paths, first_latest, load, loads, spans, worst_finish,
 };
-use common::random::{table, Random, Size};
-use common::{text, Task};
+use crate::common::random::{table, Random, Size};
+use crate::common::{text, Task};
 use second::desk;
 use second::words::{words, words_with_why};
 

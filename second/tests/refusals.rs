@@ -1,8 +1,6 @@
 //! The refusal sheet: every row with its place, at each bound and one past it.
 
-mod common;
-
-use common::*;
+use crate::common::{self, *};
 use second::desk;
 use second::judge::{judge, judge_table};
 use second::table::{TaskNo, VertexNo};

@@ -1,8 +1,6 @@
 //! The example tables say what their pages work out by hand.
 
-mod common;
-
-use common::{judged, witness_area, work_area};
+use crate::common::{self, judged, witness_area, work_area};
 use second::judge::Verdict;
 use second::latest::{latest, Lateness};
 use second::table::{TaskNo, Ticks, VertexNo};

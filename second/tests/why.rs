@@ -1,8 +1,6 @@
 //! The releases that make each meets so late, in the words for people, worked out by hand.
 
-mod common;
-
-use common::*;
+use crate::common::{self, *};
 use second::words::words_with_why;
 
 /// The words of the table of these tasks, with the releases that make each meets so late.

@@ -1,8 +1,6 @@
 //! The words for people, written out by hand from their format.
 
-mod common;
-
-use common::*;
+use crate::common::{self, *};
 use second::case::{WHY, WORDS};
 use second::words::{words, words_with_why};
 use std::fs;

@@ -1,7 +1,5 @@
 //! What the tests share: texts by hand, the document's definitions, a pseudo-random generator, and the program run.
 
-#![allow(dead_code)]
-
 pub mod definitions;
 pub mod lateness;
 pub mod random;

@@ -1,0 +1,19 @@
+//! All tests in one program, so that they are linked once and run side by side.
+
+mod areas;
+mod bench;
+mod cases;
+mod common;
+mod cost_tables;
+mod desk_texts;
+mod latest;
+mod latest_cases;
+mod latest_random;
+mod page;
+mod program;
+mod random_texts;
+mod random_words;
+mod refusals;
+mod tables;
+mod why;
+mod words;
