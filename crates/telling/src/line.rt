@@ -1,5 +1,6 @@
 // The line that a refusal names, as it stands in the text.
 use crate::print::end_line;
+use crate::print::first_of;
 use crate::print::say;
 ghost use Prim.Native.Nat.{_+_, _≤_, min};
 ghost use lib.ListN.{length};
@@ -12,14 +13,7 @@ fn line_end(text: &[u8], from: usize) -> usize
     requires { ⌜ from ≤ length (now text) ⌝ }
     ensures { λ r. ⌜ (from ≤ r) × (r ≤ length (now (text .entry))) ⌝ }
 {
-    let mut i = from;
-    while i < text.len() {
-        if text[i] == b'\n' {
-            return i;
-        }
-        i += 1;
-    }
-    i
+    first_of(text, from, b'\n', b'\n')
 }
 
 fn next_line(text: &[u8], from: usize) -> usize

@@ -12,17 +12,17 @@ pub(crate) fn end_line() {
     say(b"\n");
 }
 
-// Where a run without marks ends.
-fn run_end(words: &[u8], from: usize) -> usize
-    requires { ⌜ from ≤ length (now words) ⌝ }
-    ensures { λ r. ⌜ (from ≤ r) × (r ≤ length (now (words .entry))) ⌝ }
+// Where the first of two bytes stands from here on, or the end.
+pub(crate) fn first_of(bytes: &[u8], from: usize, one: u8, other: u8) -> usize
+    requires { ⌜ from ≤ length (now bytes) ⌝ }
+    ensures { λ r. ⌜ (from ≤ r) × (r ≤ length (now (bytes .entry))) ⌝ }
 {
     let mut i = from;
-    while i < words.len() {
-        if words[i] == b'#' {
+    while i < bytes.len() {
+        if bytes[i] == one {
             return i;
         }
-        if words[i] == b'%' {
+        if bytes[i] == other {
             return i;
         }
         i += 1;
@@ -49,7 +49,7 @@ fn say_mark(mark: u8, n: u32) {
 pub(crate) fn say_with(words: &[u8], numbers: [u32; 4]) {
     let mut at: usize = 0;
     while at < words.len() {
-        let end = run_end(words, at);
+        let end = first_of(words, at, b'#', b'%');
         say(&words[at..end]);
         if words.len() - end < 2 {
             return;

@@ -13,8 +13,8 @@ abbrev μ-loop : tie.MeasureT-loop
 loop-holds : tie.Need-loop-holds Inv-loop μ-loop
 loop-holds c = search needs
 
-run-end-requires : tie.Need-run-end-requires Inv-loop μ-loop
-run-end-requires c κs = search needs
+first-of-requires : tie.Need-first-of-requires Inv-loop μ-loop
+first-of-requires c κs = search needs
 
 sub-say : tie.Need-sub-say Inv-loop μ-loop
 sub-say c = search needs
@@ -68,7 +68,7 @@ say-with-spec =
     Inv-loop
     μ-loop
     loop-holds
-    run-end-requires
+    first-of-requires
     sub-say
     part-say-start
     part-say-end

@@ -1,14 +1,14 @@
 use Prim.Native.Nat.{_-_, _≤_}
 use lib.ListN.{length}
 use borrow.Author.Needs.{needs}
-use Rattle.telling.proofs.line.line_end.Statement.{statement}
-use Rattle.telling.proofs.line.line_end.Tie as tie
+use Rattle.telling.proofs.print.first_of.Statement.{statement}
+use Rattle.telling.proofs.print.first_of.Tie as tie
 
 abbrev Inv-loop : tie.InvT-loop
-Inv-loop text from i₀ i = (from ≤ i) × (i ≤ length text)
+Inv-loop bytes from one other i₀ i = (from ≤ i) × (i ≤ length bytes)
 
 abbrev μ-loop : tie.MeasureT-loop
-μ-loop text from i₀ i = length text - i
+μ-loop bytes from one other i₀ i = length bytes - i
 
 loop-holds : tie.Need-loop-holds Inv-loop μ-loop
 loop-holds c = search needs
@@ -19,6 +19,12 @@ shared-slice-read-if1 c = search needs
 returns : tie.Need-returns Inv-loop μ-loop
 returns c = search needs
 
+shared-slice-read-if2 : tie.Need-shared-slice-read-if2 Inv-loop μ-loop
+shared-slice-read-if2 c = search needs
+
+returns-2 : tie.Need-returns-2 Inv-loop μ-loop
+returns-2 c = search needs
+
 add-i : tie.Need-add-i Inv-loop μ-loop
 add-i c = search needs
 
@@ -28,11 +34,11 @@ loop-less c = search needs
 loop-again : tie.Need-loop-again Inv-loop μ-loop
 loop-again c = search needs
 
-returns-2 : tie.Need-returns-2 Inv-loop μ-loop
-returns-2 c = search needs
+returns-3 : tie.Need-returns-3 Inv-loop μ-loop
+returns-3 c = search needs
 
-pub line-end-spec : {M : Type 1} → statement M
-line-end-spec =
+pub first-of-spec : {M : Type 1} → statement M
+first-of-spec =
     tie.close
     (tie.spec
     Inv-loop
@@ -40,7 +46,9 @@ line-end-spec =
     loop-holds
     shared-slice-read-if1
     returns
+    shared-slice-read-if2
+    returns-2
     add-i
     loop-less
     loop-again
-    returns-2)
+    returns-3)
