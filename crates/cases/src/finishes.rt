@@ -11,6 +11,8 @@ use counts::no_counts;
 use counts::places::first_place;
 use counts::places::next_place;
 use judge::latest;
+use kinds::lateness_finish;
+use kinds::verdict_in;
 use reader::Status;
 use reader::read;
 use table::Table;
@@ -41,9 +43,8 @@ fn print_finishes(text: &[u8], table: Table, work: &mut [u32])
     while (at.task.0 as usize) < table.n {
         let own = table.tasks[at.task.0 as usize];
         let told = latest(text, at.task, at.vertex, DESK_BUDGET, work, &mut witness);
-        let verdict = told.verdict;
-        counts = counted(counts, verdict);
-        finishes = sum(finishes, told.finish);
+        counts = counted(counts, verdict_in(told));
+        finishes = sum(finishes, lateness_finish(told) as u32);
         at = next_place(own.nv, at);
     }
     print_line(counts, finishes);

@@ -7,9 +7,9 @@ use crate::areas::print_witness;
 use crate::areas::print_work;
 use crate::areas::witness_room;
 use crate::print::end_line;
-use judge::Lateness;
 use judge::judge;
 use judge::latest;
+use kinds::Lateness;
 use kinds::TaskNumber;
 use kinds::Verdict;
 use kinds::VertexNumber;
@@ -24,19 +24,9 @@ fn print_numbers(verdict: Verdict, place: u32) {
     io::print_hex(1, place as u64, 8);
 }
 
-// A miss's place is its cells, and a refusal writes none.
-fn place_of(told: Lateness) -> u32 {
-    if told.cells != 0 {
-        return told.cells;
-    }
-    let verdict = told.verdict;
-    kinds::verdict_place(verdict)
-}
-
 fn print_lateness(told: Lateness) {
-    let verdict = told.verdict;
-    print_numbers(verdict, place_of(told));
-    io::print_hex(1, told.finish as u64, 8);
+    print_numbers(kinds::verdict_in(told), kinds::lateness_place(told));
+    io::print_hex(1, kinds::lateness_finish(told) as u64, 8);
 }
 
 // By the header's mode.

@@ -2,41 +2,39 @@
 use mathlib.Core.Path.{_≡_, refl, sym, ap, subst, _∙_}
 use Prim.Native.Nat.{ℕ, _+_, _*_, _/_, _%_, _≤_}
 use native.Mathlib.Omega.{arith}
+use mathlib.Core.List.{List}
 use lib.ListN.{length, getD}
 use Rattle.meaning.specs.Bounds.{mostTasks, mostVertices}
 use Rattle.meaning.specs.Text.{Reading, readable, unreadable, read}
 use Rattle.meaning.specs.Whole.{Counts, counted, countsOf, verdicts, tableAnswer}
 use Rattle.meaning.proofs.Demands.{readable-sound, text-refused}
 use Rattle.meaning.proofs.Counts.{counts-all, vertices-few}
-use Rattle.kinds.specs.declared.Verdict.{Verdict}
-use Rattle.kinds.specs.Numbers.{verdictNumbers}
+use Rattle.kinds.specs.Numbers.{verdictNumbers, latenessNumbers}
 use Rattle.counts.specs.Counts.{totalOf}
-use Rattle.judge.specs.declared.Lateness.{Lateness}
 use Rattle.judge.proofs.Demands.{settled, settled-latest}
-use Rattle.host.specs.Told.{latestPlace, countsNumber, tableNumber}
+use Rattle.host.specs.Told.{countsNumber, tableNumber}
 use Rattle.host.specs.Settled.{VertexToldSettled, LatestToldSettled, TableToldSettled, TakenApart, TableNumberUnpacked}
 
-same-number : {r s : Verdict} (j : ℕ) → r ≡ s → getD (verdictNumbers r) j 0 ≡ getD (verdictNumbers s) j 0
-same-number j e = ap (λ (r : Verdict). getD (verdictNumbers r) j 0) e
+same-number : {X : Type 0} (numbers : X → List ℕ) {r s : X} (j : ℕ) → r ≡ s → getD (numbers r) j 0 ≡ getD (numbers s) j 0
+same-number {X} numbers j e = ap (λ (r : X). getD (numbers r) j 0) e
 
 pub vertex-settled : VertexToldSettled
 vertex-settled text i v b work wit n value place m value₂ place₂ work₁ wit₁ work₂ wit₂ p q =
     let one = settled text i v b work wit (p .verdict) (q .verdict) work₁ wit₁ work₂ wit₂ (p .judged) (q .judged) in (
-      p .number-is ∙ same-number 0 (one .0) ∙ sym (q .number-is),
-      p .value-is ∙ same-number 1 (one .0) ∙ sym (q .value-is),
-      p .place-is ∙ same-number 2 (one .0) ∙ sym (q .place-is),
+      p .number-is ∙ same-number verdictNumbers 0 (one .0) ∙ sym (q .number-is),
+      p .value-is ∙ same-number verdictNumbers 1 (one .0) ∙ sym (q .value-is),
+      p .place-is ∙ same-number verdictNumbers 2 (one .0) ∙ sym (q .place-is),
       one .1,
       one .2,
     )
 
 pub latest-settled : LatestToldSettled
 latest-settled text i v b work wit n value place finish m value₂ place₂ finish₂ work₁ wit₁ work₂ wit₂ p q =
-    let one = settled-latest text i v b work wit (p .lateness) (q .lateness) work₁ wit₁ work₂ wit₂ (p .judged) (q .judged) in
-    let verdict = ap (λ (r : Lateness). r .verdict) (one .0) in (
-      p .number-is ∙ same-number 0 verdict ∙ sym (q .number-is),
-      p .value-is ∙ same-number 1 verdict ∙ sym (q .value-is),
-      p .place-is ∙ ap latestPlace (one .0) ∙ sym (q .place-is),
-      p .finish-is ∙ ap (λ (r : Lateness). r .finish) (one .0) ∙ sym (q .finish-is),
+    let one = settled-latest text i v b work wit (p .late) (q .late) work₁ wit₁ work₂ wit₂ (p .judged) (q .judged) in (
+      p .number-is ∙ same-number latenessNumbers 0 (one .0) ∙ sym (q .number-is),
+      p .value-is ∙ same-number latenessNumbers 1 (one .0) ∙ sym (q .value-is),
+      p .place-is ∙ same-number latenessNumbers 2 (one .0) ∙ sym (q .place-is),
+      p .finish-is ∙ same-number latenessNumbers 3 (one .0) ∙ sym (q .finish-is),
       one .1,
       one .2,
     )

@@ -8,13 +8,13 @@ use lib.ListN.{length}
 use Rattle.meaning.specs.Table.{Table, noTask, taskAt}
 use Rattle.meaning.specs.Text.{Reading, readable, unreadable, read, tasksOf}
 use Rattle.meaning.specs.Sound.{SoundTable}
-use Rattle.meaning.specs.Verdict.{Verdict, refused, numbers, cellsOf, shownPaths, beside, Asked, latest, worstAt, latestPaths, meetsPaths}
+use Rattle.meaning.specs.Verdict.{Verdict, refused, numbers, lateNumbers, Asked, latest, worstAt, latestPaths, meetsPaths}
 use Rattle.meaning.specs.Areas.{workNeed, workAfter, witnessAfter}
 use Rattle.meaning.specs.Judge.{judged, onReading}
 use Rattle.meaning.proofs.Lists.{mem-getD}
 use Rattle.meaning.proofs.Demands.{readable-sound}
 use Rattle.kinds.specs.declared.Verdict as Code
-use Rattle.judge.specs.declared.Lateness.{Lateness}
+use Rattle.kinds.specs.declared.Lateness.{Lateness}
 use Rattle.judge.specs.Judged.{JudgedBy, LatestJudged}
 use Rattle.judge.proofs.Sheet.{no-task, no-vertex}
 
@@ -70,7 +70,7 @@ wide-latest text i v b {work} {wit} {j} {w} p q t =
     let lw = length work in
     let lx = length wit in
     record {
-      judged = wide-judged latest text i v b p q (t .judged);
-      finish = t .finish ∙ of-text latest i v b lw lx (λ x m n. beside x (worstAt ts m n)) (λ k n m o. refl) text p q;
-      cells = t .cells ∙ of-text latest i v b lw lx (λ x m n. length (cellsOf (shownPaths (latestPaths ts m n) x))) (λ k n m o. refl) text p q;
+      answer-is = t .answer-is ∙ of-text latest i v b lw lx (λ x m n. lateNumbers (worstAt ts m n) (latestPaths ts m n) x) (λ k n m o. refl) text p q;
+      cells = t .cells ∙ of-text latest i v b lw lx (λ x m n. workAfter x (workNeed ts m n) work) (λ k n m o. refl) text p q;
+      paths = t .paths ∙ of-text latest i v b lw lx (λ x m n. witnessAfter (latestPaths ts m n) x wit) (λ k n m o. refl) text p q;
     }

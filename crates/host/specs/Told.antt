@@ -6,14 +6,13 @@ use lib.ListN.{length, getD}
 use Rattle.meaning.specs.Text.{read}
 use Rattle.meaning.specs.Whole.{Counts, TableAnswer, counted, uncounted, tableAnswer, tableWorkAfter}
 use Rattle.kinds.specs.declared.Verdict.{Verdict}
-use Rattle.kinds.specs.declared.Verdict.the-variants.{Meets, Misses, Unfinished, Refused}
-use Rattle.kinds.specs.Numbers.{verdictNumbers}
-use Rattle.judge.specs.declared.Lateness.{Lateness}
+use Rattle.kinds.specs.declared.Lateness.{Lateness}
+use Rattle.kinds.specs.Numbers.{verdictNumbers, latenessNumbers}
 use Rattle.judge.specs.Judged.{Judged, LatestJudged}
 
 -- ---- one vertex
 
--- a verdict that `judge` may give, as the desk's 0 to 3, its value and its place; a verdict without a place has 0 for it
+-- a verdict as `judge` promises it, told as the desk's 0 to 3, its value and its place; a verdict without a place has 0 for it
 pub record VertexTold (text : List ℕ) (i v b : ℕ) (work wit : List ℕ) (number value place : ℕ) (work′ wit′ : List ℕ) : Type 0 where
   pub verdict : Verdict
   pub judged : Judged text i v b work wit verdict work′ wit′
@@ -21,25 +20,14 @@ pub record VertexTold (text : List ℕ) (i v b : ℕ) (work wit : List ℕ) (num
   pub value-is : value ≡ getD (verdictNumbers verdict) 1 0
   pub place-is : place ≡ getD (verdictNumbers verdict) 2 0
 
--- a verdict's place, where a meets wrote so many cells: a meets has those, any other verdict its own
-abbrev pub placeBeside : Verdict → ℕ → ℕ
-placeBeside (Meets count) cells = cells
-placeBeside (Misses count written) cells = written
-placeBeside (Unfinished budget) cells = 0
-placeBeside (Refused at) cells = at .place
-
--- the place of an answer to "how late is the latest?"
-abbrev pub latestPlace : Lateness → ℕ
-latestPlace r = placeBeside (r .verdict) (r .cells)
-
--- an answer that `latest` may give, as its verdict's 0 to 3 and value, its place and its finish
+-- an answer as `latest` promises it, told as its 0 to 3, its value, its place and its finish; an answer without one of these has 0 for it
 pub record LatestTold (text : List ℕ) (i v b : ℕ) (work wit : List ℕ) (number value place finish : ℕ) (work′ wit′ : List ℕ) : Type 0 where
-  pub lateness : Lateness
-  pub judged : LatestJudged text i v b work wit lateness work′ wit′
-  pub number-is : number ≡ getD (verdictNumbers (lateness .verdict)) 0 0
-  pub value-is : value ≡ getD (verdictNumbers (lateness .verdict)) 1 0
-  pub place-is : place ≡ latestPlace lateness
-  pub finish-is : finish ≡ lateness .finish
+  pub late : Lateness
+  pub judged : LatestJudged text i v b work wit late work′ wit′
+  pub number-is : number ≡ getD (latenessNumbers late) 0 0
+  pub value-is : value ≡ getD (latenessNumbers late) 1 0
+  pub place-is : place ≡ getD (latenessNumbers late) 2 0
+  pub finish-is : finish ≡ getD (latenessNumbers late) 3 0
 
 -- ---- a whole table
 

@@ -10,9 +10,11 @@ use judge::judge;
 use judge::judge_table;
 use judge::latest;
 use kinds::TaskNumber;
-use kinds::Verdict;
 use kinds::VertexNumber;
+use kinds::lateness_finish;
+use kinds::lateness_place;
 use kinds::refusal_number;
+use kinds::verdict_in;
 use kinds::verdict_number;
 use kinds::verdict_place;
 use kinds::verdict_value;
@@ -24,7 +26,7 @@ ghost use Rattle.meaning.specs.Text.{read, packed};
 ghost use Rattle.meaning.specs.Areas.{Wrote};
 ghost use Rattle.judge.specs.Desk.{outputInto};
 ghost use Rattle.counts.specs.Counts.{meantCounts};
-ghost use Rattle.host.specs.Told.{VertexTold, placeBeside, LatestTold, countsNumber, TableTold};
+ghost use Rattle.host.specs.Told.{VertexTold, LatestTold, countsNumber, TableTold};
 
 // The text check, by the project's name.
 #[no_mangle]
@@ -72,18 +74,6 @@ pub extern "C" fn tectavirio_judge(
     verdict_number(verdict)
 }
 
-// The cells that a meets wrote, else the verdict's own place.
-fn place_beside(verdict: Verdict, cells: u32) -> u32
-    ensures { λ r. ⌜ r ≡ placeBeside verdict cells ⌝ }
-{
-    match verdict {
-        Verdict::Meets(_) => cells,
-        Verdict::Misses(_, written) => written,
-        Verdict::Unfinished(_) => 0,
-        Verdict::Refused(at) => at.place,
-    }
-}
-
 // One vertex, and how late its latest is: as the call above, but a meets has the cells that it wrote as its place, and the finish is its worst finish; 0
 // beside any other verdict.
 #[no_mangle]
@@ -100,7 +90,7 @@ pub extern "C" fn tectavirio_latest(
 ) -> u8
     ensures { λ r. ⌜ LatestTold (now (text .entry)) task vertex budget (now (work .entry)) (now (witness .entry)) r (now (value .exit)) (now (place .exit)) (now (finish .exit)) (now (work .exit)) (now (witness .exit)) ⌝ }
 {
-    let lateness = latest(
+    let late = latest(
         text,
         TaskNumber(narrow(task)),
         VertexNumber(narrow(vertex)),
@@ -108,10 +98,10 @@ pub extern "C" fn tectavirio_latest(
         work,
         witness,
     );
-    let said = lateness.verdict;
+    let said = verdict_in(late);
     *value = verdict_value(said);
-    *place = place_beside(said, lateness.cells);
-    *finish = lateness.finish;
+    *place = lateness_place(late);
+    *finish = lateness_finish(late) as u32;
     verdict_number(said)
 }
 

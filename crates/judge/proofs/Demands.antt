@@ -4,11 +4,11 @@ use Prim.Native.Nat.{ℕ, _≤_}
 use mathlib.Core.Option.{none, some}
 use mathlib.Core.List.{List, [], _∷_}
 use native.Mathlib.Omega.{arith}
-use lib.ListN.{length}
+use lib.ListN.{length, getD}
 use Rattle.meaning.specs.Table.{Table, higher}
 use Rattle.meaning.specs.Text.{Reading, readable, unreadable, read, tasksOf}
 use Rattle.meaning.specs.Verdict as Said
-use Rattle.meaning.specs.Verdict.{meets, misses, numbers, cellsOf, shownPaths, beside, pathsIn, latest, ownE, worstAt, latestPaths, meetsPaths}
+use Rattle.meaning.specs.Verdict.{meets, misses, numbers, cellsOf, lateNumbers, pathsIn, latest, ownE, worstAt, latestPaths, meetsPaths}
 use Rattle.meaning.specs.Paths.{Path}
 use Rattle.meaning.specs.Areas.{zeroed, written, workNeed, needUnless, workAfter, witnessAfter}
 use Rattle.meaning.specs.Judge.{judged, onReading, answer}
@@ -27,24 +27,21 @@ use Rattle.meaning.proofs.Counts.{counts-all, meets-mono, misses-mono}
 use Rattle.kinds.specs.declared.Refusal.{Refusal}
 use Rattle.kinds.specs.declared.Verdict.{Verdict}
 use Rattle.kinds.specs.declared.Verdict.the-variants.{Meets, Misses, Unfinished, Refused}
-use Rattle.kinds.specs.Numbers.{refusalNumber, verdictNumbers}
-use Rattle.kinds.proofs.Numbers.{refusalOf, refusal-of-number, same-verdict}
+use Rattle.kinds.specs.Numbers.{refusalNumber, verdictNumbers, latenessNumbers}
+use Rattle.kinds.proofs.Numbers.{refusalOf, refusal-of-number, same-verdict, same-lateness}
 use Rattle.counts.specs.declared.Counts.{Counts}
 use Rattle.counts.specs.Counts.{meantCounts, totalOf}
-use Rattle.judge.specs.declared.Lateness.{Lateness}
+use Rattle.kinds.specs.declared.Ticks.{Ticks}
+use Rattle.kinds.specs.declared.Lateness.the-variants as Late
 use Rattle.judge.specs.declared.TableVerdict.{TableVerdict}
 use Rattle.judge.specs.declared.TableVerdict.the-variants as Whole
 use Rattle.judge.specs.Whole.{answerOf}
 use Rattle.judge.specs.Demands.{Call, groups, refusedBy, Demand1, Demand2, SameVertex, Larger, Demand3, AreasAfter, LatestCall, HowLate, TableCall}
 use Rattle.judge.specs.Demands.{TextFirst, FourCounts}
 use Rattle.judge.specs.Settled.{Settled, SettledLatest, SettledTable, SettledOutput, OutputFits}
+use Rattle.judge.proofs.Answers.{judged-by}
 use Rattle.judge.proofs.Cases.{says-meets, says-misses, says-unfinished, says-refused}
 use Rattle.judge.proofs.Output.{output-fits}
-
-same-lateness : {r s : Lateness} → r .verdict ≡ s .verdict → r .finish ≡ s .finish → r .cells ≡ s .cells → r ≡ s
-same-lateness {r} {s} p q w =
-    ap₂ (λ (n m : ℕ). record { verdict = r .verdict; finish = n; cells = m }) q w
-    ∙ ap (λ (z : Verdict). record { verdict = z; finish = s .finish; cells = s .cells }) p
 
 -- ---- what a call says
 
@@ -113,11 +110,6 @@ module _ (x y : Call) (l : Larger x y) where
       ap₂ (λ (a : Said.Asked) (m : Reading). onReading m (λ (ts : Table). judged a ts (y .i) (y .v) b work wit)) (l .asked) (l .same .table)
       ∙ ap₂ (λ (i v : ℕ). answer (x .asked) (x .text) i v b work wit) (l .same .vertex .0) (l .same .vertex .1)
 
-  same-paths : us y ≡ us x
-  same-paths =
-      ap₂ (λ (a : Said.Asked) (m : Reading). meetsPaths a (tasksOf m) (y .i) (y .v)) (l .asked) (l .same .table)
-      ∙ ap₂ (λ (i v : ℕ). meetsPaths (x .asked) (tasksOf (read (x .text))) i v) (l .same .vertex .0) (l .same .vertex .1)
-
   lasts : (z : Said.Verdict) → said x ≡ z → Given z → said y ≡ z
   lasts z e g = go (read (x .text)) refl
     where
@@ -133,9 +125,7 @@ pub demand3 : Demand3
 demand3 =
     record {
       meets-lasts = λ x y l c e.
-          let p = says-meets (said x) c (says x e) in
-          let z = lasts x y l (meets c) p tt in
-          (gives y (Meets c) z refl, (us x, paths-are x p, paths-are y z ∙ ap (λ (ws : List Path). written (cellsOf ws) (y .wit)) (same-paths x y l)));
+          gives y (Meets c) (lasts x y l (meets c) (says-meets (said x) c (says x e)) tt) refl;
       misses-lasts = λ x y l c n e.
           let p = says-misses (said x) c n (says x e) in
           let z = lasts x y l (misses c (p .0)) (p .1) tt in
@@ -180,8 +170,8 @@ module _ (x : LatestCall) where
   abbrev saidLate : Said.Verdict
   saidLate = answer latest (c₁ .text) (c₁ .i) (c₁ .v) (c₁ .b) (length (c₁ .work)) (length (c₁ .wit))
 
-  late : {r : Verdict} → c₁ .r ≡ r → verdictNumbers r ≡ numbers saidLate
-  late q = ap verdictNumbers (sym q) ∙ x .promised .judged .verdict
+  said-late : saidLate ≡ said c₁
+  said-late = ap (λ (a : Said.Asked). answer a (c₁ .text) (c₁ .i) (c₁ .v) (c₁ .b) (length (c₁ .work)) (length (c₁ .wit))) (sym (x .asks))
 
   abbrev tick : ℕ
   tick = worstAt (tasksOf (read (c₁ .text))) (c₁ .i) (c₁ .v)
@@ -189,28 +179,40 @@ module _ (x : LatestCall) where
   abbrev ls : List Path
   ls = latestPaths (tasksOf (read (c₁ .text))) (c₁ .i) (c₁ .v)
 
-  figure : {y : Said.Verdict} → saidLate ≡ y → x .finish ≡ beside y tick
-  figure q = x .promised .finish ∙ ap (λ (y : Said.Verdict). beside y tick) q
+  -- a meets with its numbers
+  met : (c : ℕ) (t : Ticks) (n : ℕ) → x .told ≡ Late.Meets c t n → (saidLate ≡ meets c) × (t .0 ≡ tick) × (n ≡ length (cellsOf ls))
+  met c t n e = go saidLate refl
+    where
+      is : latenessNumbers (Late.Meets c t n) ≡ lateNumbers tick ls saidLate
+      is = ap latenessNumbers (sym e) ∙ x .promised .answer-is
 
-  cells-of : {y : Said.Verdict} → saidLate ≡ y → x .cells ≡ length (cellsOf (shownPaths ls y))
-  cells-of q = x .promised .cells ∙ ap (λ (y : Said.Verdict). length (cellsOf (shownPaths ls y))) q
+      go : (y : Said.Verdict) → saidLate ≡ y → (saidLate ≡ meets c) × (t .0 ≡ tick) × (n ≡ length (cellsOf ls))
+      go (meets k) q =
+          let z = is ∙ ap (lateNumbers tick ls) q in
+          (q ∙ ap meets (sym (ap (λ (ns : List ℕ). getD ns 1 0) z)), ap (λ (ns : List ℕ). getD ns 3 0) z, ap (λ (ns : List ℕ). getD ns 2 0) z)
+      go (misses k ws) q = absurd (let z = ap (λ (ns : List ℕ). getD ns 0 9) (is ∙ ap (lateNumbers tick ls) q) in omega arith)
+      go (Said.unfinished k) q = absurd (let z = ap (λ (ns : List ℕ). getD ns 0 9) (is ∙ ap (lateNumbers tick ls) q) in omega arith)
+      go (Said.refused k m) q = absurd (let z = ap (λ (ns : List ℕ). getD ns 0 9) (is ∙ ap (lateNumbers tick ls) q) in omega arith)
 
-  area-of : {y : Said.Verdict} → saidLate ≡ y → c₁ .wit′ ≡ witnessAfter ls y (c₁ .wit)
-  area-of q = x .promised .judged .paths ∙ ap (λ (y : Said.Verdict). witnessAfter ls y (c₁ .wit)) q
+  meets-verdict : (c : ℕ) (t : Ticks) (n : ℕ) → x .told ≡ Late.Meets c t n → c₁ .r ≡ Meets c
+  meets-verdict c t n e = gives c₁ (Meets c) (sym said-late ∙ met c t n e .0) refl
 
-meets-worst : (x : LatestCall) (ts : Table) → read (x .call .text) ≡ readable ts → (c : ℕ) → x .call .r ≡ Meets c → (ws : List Path)
-    × Worst ts (x .call .i) (x .call .v) (x .finish) ws × (x .call .wit′ ≡ written (cellsOf ws) (x .call .wit)) × (x .cells ≡ length (cellsOf ws))
-meets-worst x ts q c e =
+  meets-written : (c : ℕ) → saidLate ≡ meets c → c₁ .wit′ ≡ written (cellsOf ls) (c₁ .wit)
+  meets-written c m = x .promised .paths ∙ ap (λ (y : Said.Verdict). witnessAfter ls y (c₁ .wit)) m
+
+meets-worst : (x : LatestCall) (ts : Table) → read (x .call .text) ≡ readable ts → (c : ℕ) (t : Ticks) (n : ℕ) → x .told ≡ Late.Meets c t n → (ws : List Path)
+    × Worst ts (x .call .i) (x .call .v) (t .0) ws × (x .call .wit′ ≡ written (cellsOf ws) (x .call .wit)) × (n ≡ length (cellsOf ws))
+meets-worst x ts q c t n e =
     let k = x .call in
-    let p = says-meets (saidLate x) c (late x e) in
-    let free = meets-says latest (k .text) ts q (k .i) (k .v) (sound k ts q) (k .b) (length (k .work)) (length (k .wit)) c p .0 in
+    let m = met x c t n e in
+    let free = meets-says latest (k .text) ts q (k .i) (k .v) (sound k ts q) (k .b) (length (k .work)) (length (k .wit)) c (m .0) .0 in
     let w = worst-is ts (k .i) (k .v) (sound k ts q) free in
     let is : tasksOf (read (k .text)) ≡ ts = ap tasksOf q in
     let paths = ap (λ (us : Table). latestPaths us (k .i) (k .v)) is in (
       latestPaths ts (k .i) (k .v),
-      subst (λ (n : ℕ). Worst ts (k .i) (k .v) n (latestPaths ts (k .i) (k .v))) (sym (figure x p ∙ ap (λ (us : Table). worstAt us (k .i) (k .v)) is)) w,
-      area-of x p ∙ ap (λ (ws : List Path). written (cellsOf ws) (k .wit)) paths,
-      cells-of x p ∙ ap (λ (ws : List Path). length (cellsOf ws)) paths,
+      subst (λ (d : ℕ). Worst ts (k .i) (k .v) d (latestPaths ts (k .i) (k .v))) (sym (m .1 ∙ ap (λ (us : Table). worstAt us (k .i) (k .v)) is)) w,
+      meets-written x c (m .0) ∙ ap (λ (ws : List Path). written (cellsOf ws) (k .wit)) paths,
+      m .2 ∙ ap (λ (ws : List Path). length (cellsOf ws)) paths,
     )
 
 -- a meets has a vertex of the table
@@ -234,27 +236,29 @@ reads-table x c e = go (read (x .text)) refl
 pub how-late : HowLate
 how-late =
     record {
+      is-call = λ text i v b work wit r work′ wit′ p. judged-by p refl;
       meets-worst = meets-worst;
-      misses-none = λ x c n e. let p = says-misses (saidLate x) c n (late x e) in (figure x (p .1), cells-of x (p .1) ∙ sym (p .2));
-      unfinished-none = λ x n e. let p = says-unfinished (saidLate x) n (late x e) in (figure x p, cells-of x p);
-      refused-none = λ x at e. let p = says-refused (saidLate x) at (late x e) in (figure x p, cells-of x p);
-      meets-lasts = λ x y l c e.
-          let p = says-meets (saidLate x) c (late x e) in
-          let z = says-meets (saidLate y) c (late y (demand3 .meets-lasts (x .call) (y .call) l c e .0)) in (
-            figure y z ∙ same-of worstAt x y l ∙ sym (figure x p),
-            cells-of y z ∙ ap (λ (ws : List Path). length (cellsOf ws)) (same-of latestPaths x y l) ∙ sym (cells-of x p),
+      meets-lasts = λ x y l c t n e.
+          let p = met x c t n e in
+          let z = said-late y ∙ lasts (x .call) (y .call) l (meets c) (sym (said-late x) ∙ p .0) tt in
+          let paths = same-of latestPaths x y l in (
+            same-lateness (y .told) (Late.Meets c t n)
+                (y .promised .answer-is ∙ ap (lateNumbers (tick y) (ls y)) z
+                ∙ ap₂ (λ (m k : ℕ). 0 ∷ c ∷ m ∷ k ∷ []) (ap (λ (ws : List Path). length (cellsOf ws)) paths ∙ sym (p .2))
+                (same-of worstAt x y l ∙ sym (p .1))),
+            (ls x, p .2, meets-written x c (p .0), meets-written y c z ∙ ap (λ (ws : List Path). written (cellsOf ws) (y .call .wit)) paths),
           );
       old-witness = λ x y l c n c′ n′ e f.
           let p = says-misses (said x) c n (says x e) in
           let q = says-misses (said y) c′ n′ (says y f) in
           let same : q .0 ≡ p .0 = same-paths-of x y l c c′ (p .0) (q .0) (p .1) (q .1) in (
             q .2 ∙ ap (λ (ws : List Path). length (cellsOf ws)) same ∙ sym (p .2),
-            (p .0, paths-are x (p .1), paths-are y (q .1) ∙ ap (λ (ws : List Path). written (cellsOf ws) (y .wit)) same),
+            (p .0, p .2, paths-are x (p .1), paths-are y (q .1) ∙ ap (λ (ws : List Path). written (cellsOf ws) (y .wit)) same),
           );
-      alone = λ x ts q c e h.
+      alone = λ x ts q c t n e h.
           let k = x .call in
-          let w = meets-worst x ts q c e in
-          worst-alone ts (k .i) (k .v) (sound k ts q) h (own-some k ts q c e) (x .finish) (w .0) (w .1);
+          let w = meets-worst x ts q c t n e in
+          worst-alone ts (k .i) (k .v) (sound k ts q) h (own-some k ts q c (meets-verdict x c t n e)) (t .0) (w .0) (w .1);
       agree = λ x y l c c′ n e f.
           let t = reads-table x c e in
           let over = demand2 .misses-only y (t .0) (l .table ∙ t .1) c′ n f .0 in
@@ -356,12 +360,7 @@ settled text i v b work wit r s work₁ wit₁ work₂ wit₂ j k =
 
 pub settled-latest : SettledLatest
 settled-latest text i v b work wit r s work₁ wit₁ work₂ wit₂ j k =
-    let x = j .judged in
-    let y = k .judged in (
-      same-lateness (same-verdict (r .verdict) (s .verdict) (x .verdict ∙ sym (y .verdict))) (j .finish ∙ sym (k .finish)) (j .cells ∙ sym (k .cells)),
-      x .cells ∙ sym (y .cells),
-      x .paths ∙ sym (y .paths),
-    )
+    (same-lateness r s (j .answer-is ∙ sym (k .answer-is)), j .cells ∙ sym (k .cells), j .paths ∙ sym (k .paths))
 
 -- a table's verdict from its answer
 abbrev tableVerdictOf : TableAnswer → TableVerdict

@@ -16,6 +16,8 @@ use Rattle.meaning.proofs.Lists.{map-mem}
 use Rattle.meaning.proofs.Wrote.{wrote-none, wrote-then, wrote-length}
 use Rattle.meaning.proofs.Whole.{verdict-at, desk-witness}
 use Rattle.kinds.specs.declared.Verdict.{Verdict}
+use Rattle.kinds.specs.declared.Lateness.{Lateness}
+use Rattle.kinds.specs.Numbers.{verdictIn}
 use Rattle.table.specs.declared.Table.{Table}
 use Rattle.table.specs.Inner.{tableOf, Held}
 use Rattle.desk_frames.specs.Lines.{WholeShown, shownLines}
@@ -23,7 +25,8 @@ use Rattle.counts.specs.declared.Counts.{Counts}
 use Rattle.counts.specs.Counts.{meantCounts}
 use Rattle.counts.specs.Inner.{noCounts, oneMore}
 use Rattle.counts.specs.Place.{firstPlace}
-use Rattle.judge.specs.Inner.{Answered, nextIn, tableOutput}
+use Rattle.judge.specs.Inner.{Answered, VertexJudged, nextIn, tableOutput}
+use Rattle.judge.proofs.Told.{answered}
 use Rattle.judge.proofs.Remaining.{remaining, remaining-first}
 use Rattle.judge.proofs.SoFar.{SoFar, so-far-none, so-far-end, so-far-all, so-far-in, so-far-next, so-far-said, so-far-more}
 use Rattle.judge.proofs.DeskLines.{vertexLines, bytesOf, lines-cons, countsBytes, table-lines, lines-fit}
@@ -84,11 +87,13 @@ module _ {t : Table} {out now work wit : List ℕ} {c : Counts} {q : Place} {at 
         let all = ap length splits ∙ length-append (d .done ++ vertexLines ts q) behind in
         omega (arith, all, length-append (d .done) (vertexLines ts q), d .wrote .end, d .same, d .room, lines-fit ts sound)
 
-    abbrev Judged : Verdict → List ℕ → List ℕ → Type 0
-    Judged r work′ wit′ =
-        Answered (judged plain ts (q .task) (q .vertex) deskBudget (length work) (length wit)) [] (workNeed ts (q .task) (q .vertex)) work wit r work′ wit′
+    abbrev Told : Lateness → List ℕ → List ℕ → Type 0
+    Told l work′ wit′ = VertexJudged plain ts (q .task) (q .vertex) deskBudget work wit l work′ wit′
 
-    module _ {r : Verdict} {work′ wit′ : List ℕ} (a : Judged r work′ wit′) where
+    module _ {l : Lateness} {work′ wit′ : List ℕ} (told : Told l work′ wit′) {r : Verdict} (in-it : r ≡ verdictIn l) where
+      a : Answered (judged plain ts (q .task) (q .vertex) deskBudget (length work) (length wit)) [] (workNeed ts (q .task) (q .vertex)) work wit r work′ wit′
+      a = answered told in-it
+
       shown : Shown ts q r wit′
       shown = vertex-shown ts sound q (so-far-in (d .so-far) h) (d .works) (d .wits) a
 

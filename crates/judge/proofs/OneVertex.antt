@@ -12,14 +12,14 @@ use Rattle.meaning.specs.Table.{taskAt, higher}
 use Rattle.meaning.specs.Verdict as Said
 use Rattle.meaning.specs.Paths.{Path, pathsOf}
 use Rattle.meaning.specs.Groups.{worst}
-use Rattle.meaning.specs.Verdict.{shownPaths, beside, loadOf, topOf, walked, ownE, deadline, meetsPaths}
+use Rattle.meaning.specs.Verdict.{shownPaths, loadOf, topOf, walked, ownE, deadline, meetsPaths}
 use Rattle.meaning.specs.Areas as Areas
 use Rattle.meaning.specs.Areas.{rowsFor, workNeed, witnessNeed, zeroed, Wrote}
 use Rattle.meaning.specs.Judge.{judged}
 use Rattle.kinds.specs.declared.Refusal.the-variants.{TooManyPaths}
 use Rattle.kinds.specs.declared.RefusedAt.{RefusedAt}
-use Rattle.kinds.specs.declared.Verdict as Kinds
-use Rattle.kinds.specs.declared.Verdict.the-variants as Kind
+use Rattle.kinds.specs.declared.Lateness.{Lateness}
+use Rattle.kinds.specs.declared.Lateness.the-variants as Late
 use Rattle.table.specs.declared.Task.{Task}
 use Rattle.table.specs.declared.Table.{Table}
 use Rattle.table.specs.Inner.{taskOf, tableOf, HeldTask, Held}
@@ -40,12 +40,12 @@ use Rattle.sheet.specs.declared.AreaRows.{AreaRows}
 use Rattle.sheet.specs.declared.AreaRows.the-variants.{Passed, Refused}
 use Rattle.sheet.specs.Sheet.{tooManyPaths, areaRows, saidOf}
 use Rattle.sheet.proofs.Needs.{cells-small, area-rooms}
-use Rattle.search.specs.Meant.{meantBy, firstBar, written}
+use Rattle.search.specs.Meant.{beside, meantBy, firstBar, written}
 use Rattle.search.proofs.Joining.{walkable}
-use Rattle.search.proofs.Ending.{lastBar, meetsOf, written-few, places-are, walked-is, finish-is, written-are, places-small}
-use Rattle.judge.specs.Inner.{lastTick, AnsweredBy, There}
-use Rattle.judge.specs.declared.Lateness.{Lateness}
-use Rattle.judge.proofs.Told.{aloneBy, answer-refused, answer-area, answer-ended}
+use Rattle.search.proofs.Ending.{lastBar, meetsOf, written-few, places-are, walked-is, finish-is, finish-low, written-are, places-small}
+use Rattle.judge.specs.Judged.{AnsweredBy}
+use Rattle.judge.specs.Inner.{lastTick, There}
+use Rattle.judge.proofs.Told.{answer-refused, answer-area, answer-ended}
 use Rattle.judge.proofs.Higher.{many, seven, CountedTo, counted-none, crowds, count-pos, with-asks, counted-more, all-counted, all-few}
 use Rattle.judge.proofs.Higher.{FilledTo, filled-none, fill-asks, filled-more, filled-all}
 use Rattle.judge.proofs.Missing.{MissTo, miss-none, place-asks, miss-more, miss-short}
@@ -106,7 +106,7 @@ module _ (asked : Asked) where
   need = workNeed ts i v
 
   abbrev Refused₁ : Lateness → Type 0
-  Refused₁ r = AnsweredBy J us tick need work wit r work wit
+  Refused₁ r = AnsweredBy J tick us need work wit r work wit
 
   th : There ts (record { task = i; vertex = v })
   th = asked .there
@@ -156,14 +156,14 @@ module _ (asked : Asked) where
     -- the next has r paths, cut off past the most that are allowed
     module _ (z : Task) (m : j < i) (r : ℕ) (n : r ≡ min (mostPaths + 1) (length (pathsOf (taskOf (getD (t .tasks) j z)) d))) where
       -- "some higher task has more than 64 complete paths": the lowest-numbered such task
-      pub answer-9 : mostPaths < r → {y : Lateness} {x : Kinds.Verdict} → y ≡ aloneBy x → x ≡ tooManyPaths j → Refused₁ y
-      answer-9 h p q =
+      pub answer-9 : mostPaths < r → {y : Lateness} → y ≡ tooManyPaths j → Refused₁ y
+      answer-9 h q =
           let few : (o : ℕ) → o < j → getD (pathCounts ks D) o 0 ≤ mostPaths =
           λ o u. subst (λ (y : ℕ). getD (pathCounts ks y) o 0 ≤ mostPaths) d-is (c .few o u) in
           let over : mostPaths < getD (pathCounts ks D) j 0 =
           subst (λ (y : ℕ). mostPaths < getD (pathCounts ks y) j 0) d-is (crowds t k i task-in d z c m r n h) in
           let f = first-crowded ts i D within j m few over in
-          answer-refused J us tick TooManyPaths j need work wit p q
+          answer-refused J us tick TooManyPaths j need work wit q
           (at-9 asks ts i v b (length work) (length wit) there (f .0) ∙ ap (Said.refused 9) (f .1))
 
       pub with-paths-asks : r ≤ mostPaths → (Counted j a × (j < mostHigher)) × ((0 < r) × (r ≤ mostPaths) × (d ≤ largestD))
@@ -215,7 +215,7 @@ module _ (asked : Asked) where
 
     -- rows 10 and 11
     pub answer-areas : {x : AreaRows} → x ≡ areaRows (a .rows * d) (i * (1 + d)) (length work) (length wit)
-        → {at : RefusedAt} → x ≡ Refused at → {y : Lateness} → y ≡ aloneBy (Kind.Refused at) → Refused₁ y
+        → {at : RefusedAt} → x ≡ Refused at → {y : Lateness} → y ≡ Late.Refused at → Refused₁ y
     answer-areas =
         answer-area (a .rows * d) (i * (1 + d))
         (λ h. at-10 asks ts i v b (length work) (length wit) there none (omega (arith, needs-are)) ∙ ap (Said.refused 10) (sym needs-are))
@@ -312,8 +312,7 @@ module _ (asked : Asked) where
           Ran-from z = r ≡ runRows (stretches ks d) d e (take (length ks) (a₀ .roots)) (take (length ks) (a₀ .counts)) (firstBar z d) b
 
           ran-front : Ran-from asks
-          ran-front =
-              y .is
+          ran-front = y .is
               ∙ ap (λ (x : List ℕ). runRows x d e (take i (a .roots)) (take i (a .counts)) (firstBar asks d) b) front
               ∙ ap (λ (x : Above). runRows (stretches ks d) d e (take i (x .roots)) (take i (x .counts)) (firstBar asks d) b) a-is
               ∙ ap (λ (n : ℕ). runRows (stretches ks d) d e (take n (a₀ .roots)) (take n (a₀ .counts)) (firstBar asks d) b) (sym (many t k i task-in d))
@@ -370,8 +369,7 @@ module _ (asked : Asked) where
           judged-is : J ≡ meantBy (r .ending) ws
           judged-is =
               at-walk asks ts i v b (length work) (length wit) there none (omega (arith, needs-are, rooms .0)) (omega (arith, cells-are, rooms .1))
-              ∙ sym (ap₂ (walked asks b ks) e-is d-is)
-              ∙ walked-is asks ks d few-paths e b e-small r ran-front
+              ∙ sym (ap₂ (walked asks b ks) e-is d-is) ∙ walked-is asks ks d few-paths e b e-small r ran-front
 
           shown-are : shownPaths us (meantBy (r .ending) ws) ≡ take shown ws
           shown-are =
@@ -389,11 +387,12 @@ module _ (asked : Asked) where
               last-tick Said.plain = d-is
               last-tick Said.latest = ap₂ (λ (x y : ℕ). worst loadOf x y (topOf ks y)) e-is d-is
 
+          pub finish-fits : r .finish ≤ largestD + 1
+          finish-fits = omega (arith, finish-low asks ks d few-paths e b e-small r ran-front, d-bounds .1)
+
           -- the answer, where the work cells became Z and the witness area wit′
           pub answer-walked : {Z : List ℕ} → Z ≡ zeroed (a .rows * d) W → {wit′ : List ℕ} {cells : ℕ} → AllWritten wit′ cells
-              → {x : Kinds.Verdict} → x ≡ saidOf (r .ending) cells
-              → AnsweredBy J us tick need work wit (record { verdict = x; finish = r .finish; cells = cells }) Z wit′
-          answer-walked {Z} clear {wit′} {cells} w {x} q =
-              subst (λ (y : Said.Verdict). AnsweredBy y us tick need work wit (record { verdict = x; finish = r .finish; cells = cells }) Z wit′)
-              (sym judged-is)
+              → {x : Lateness} → x ≡ saidOf (r .ending) (r .finish) cells → AnsweredBy J tick us need work wit x Z wit′
+          answer-walked {Z} clear {wit′} w {x} q =
+              subst (λ (y : Said.Verdict). AnsweredBy y tick us need work wit x Z wit′) (sym judged-is)
               (answer-ended (r .ending) ws shown-are (w .gathered .wrote) (omega (arith, miss-short w, rooms .1)) tick-is (clear ∙ cleared) q)

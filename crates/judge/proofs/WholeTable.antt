@@ -12,14 +12,16 @@ use Rattle.meaning.specs.Areas.{workNeed, zeroed, needUnless}
 use Rattle.meaning.specs.Judge.{judged}
 use Rattle.meaning.specs.Whole.{Place, verdictAt, tableNeed}
 use Rattle.kinds.specs.declared.Verdict.{Verdict}
+use Rattle.kinds.specs.declared.Lateness.{Lateness}
+use Rattle.kinds.specs.Numbers.{verdictIn}
 use Rattle.table.specs.declared.Table.{Table}
 use Rattle.table.specs.Inner.{tableOf, Held}
 use Rattle.areas.proofs.Fronts.{zeroed-twice}
 use Rattle.counts.specs.declared.Counts.{Counts}
 use Rattle.counts.specs.Inner.{noCounts, oneMore}
 use Rattle.counts.specs.Place.{firstPlace}
-use Rattle.judge.specs.Inner.{Answered, AnsweredBy, nextIn, TableCounted}
-use Rattle.judge.specs.declared.Lateness.{Lateness}
+use Rattle.judge.specs.Inner.{Answered, VertexJudged, nextIn, TableCounted}
+use Rattle.judge.proofs.Told.{answered}
 use Rattle.judge.proofs.Remaining.{remaining, remaining-first}
 use Rattle.judge.proofs.SoFar.{SoFar, so-far-none, so-far-end, so-far-all, so-far-next, so-far-said, so-far-more}
 
@@ -69,18 +71,21 @@ module _ {t : Table} {b : ℕ} {before now wit : List ℕ} {c : Counts} {q : Pla
     is-said : said ≡ verdictAt (tableOf t) b (length before) q
     is-said = so-far-said (k .so-far) h (k .same) (k .wits)
 
-    module _ {now′ wit′ : List ℕ} {tick : ℕ} {r : Lateness} (told : AnsweredBy said [] tick need now wit r now′ wit′) where
-      a : Answered said [] need now wit (r .verdict) now′ wit′
-      a = told .answered
+    abbrev Told : Lateness → List ℕ → List ℕ → Type 0
+    Told l now′ wit′ = VertexJudged plain (tableOf t) (q .task) (q .vertex) b now wit l now′ wit′
+
+    module _ {l : Lateness} {now′ wit′ : List ℕ} (told : Told l now′ wit′) {r : Verdict} (in-it : r ≡ verdictIn l) where
+      a : Answered said [] need now wit r now′ wit′
+      a = answered told in-it
 
       zeroes-own : now′ ≡ zeroed (needAt (tableOf t) b (length before) q) now
       zeroes-own = a .cells ∙ ap (λ (x : Said.Verdict). zeroed (needUnless x need) now) is-said
 
-      pub judged-more : {m : Counts} {p : Place} → length now′ ≡ length now → length wit′ ≡ length wit → m ≡ oneMore c (r .verdict) → p ≡ nextIn (tableOf t) q
+      pub judged-more : {m : Counts} {p : Place} → length now′ ≡ length now → length wit′ ≡ length wit → m ≡ oneMore c r → p ≡ nextIn (tableOf t) q
           → JudgedSoFar t b before now′ wit′ m p
       judged-more x y e f =
           record {
-            so-far = so-far-more (k .so-far) h (r .verdict) (a .verdict ∙ ap numbers is-said) e f;
+            so-far = so-far-more (k .so-far) h r (a .verdict ∙ ap numbers is-said) e f;
             same = x ∙ k .same;
             wits = y ∙ k .wits;
             cells = ap (λ (p : Place). zeroes (remaining (tableOf t) p) now′) f ∙ on;

@@ -17,17 +17,21 @@ use Rattle.meaning.specs.Demands.{Overloadable, First, Worst, vertexTotal}
 use Rattle.kinds.specs.declared.RefusedAt.{RefusedAt}
 use Rattle.kinds.specs.declared.Verdict.{Verdict}
 use Rattle.kinds.specs.declared.Verdict.the-variants.{Meets, Misses, Unfinished, Refused}
-use Rattle.kinds.specs.Numbers.{verdictNumbers}
+use Rattle.kinds.specs.Numbers.{verdictNumbers, verdictIn}
 use Rattle.counts.specs.declared.Counts.{Counts}
 use Rattle.counts.specs.Counts.{meantCounts, totalOf}
 use Rattle.judge.specs.declared.TableVerdict.{TableVerdict}
 use Rattle.judge.specs.declared.TableVerdict.the-variants as Whole
+use Rattle.kinds.specs.declared.Ticks.{Ticks}
+use Rattle.kinds.specs.declared.Lateness.{Lateness}
+use Rattle.kinds.specs.declared.Lateness.the-variants as Late
 use Rattle.judge.specs.Judged.{JudgedBy, LatestJudged}
 use Rattle.judge.specs.Whole.{answerOf, TableJudged}
 
 -- ---- a vertex
 
--- A call of `judge` or `latest`: what it was asked and given, the verdict r, and the areas as it returned. Its promise is all that is known of it.
+-- A call of `judge` or `latest`: what it was asked and given, the verdict r in its answer, and the areas as it returned. What is promised of these is all
+-- that is known of them.
 pub record Call : Type 0 where
   pub asked : Asked
   pub text : List ℕ
@@ -87,8 +91,7 @@ pub record Larger (x y : Call) : Type 0 where
 -- applies, "unfinished" is given exactly if the budget is below the number of groups that document 01's rule has to examine, and that number is at
 -- most twice the product of the tasks' path counts, less one."
 pub record Demand3 : Type 0 where
-  pub meets-lasts : (x y : Call) → Larger x y → (c : ℕ) → x .r ≡ Meets c
-      → (y .r ≡ Meets c) × ((ws : List Path) × (x .wit′ ≡ written (cellsOf ws) (x .wit)) × (y .wit′ ≡ written (cellsOf ws) (y .wit)))
+  pub meets-lasts : (x y : Call) → Larger x y → (c : ℕ) → x .r ≡ Meets c → y .r ≡ Meets c
   pub misses-lasts : (x y : Call) → Larger x y → (c n : ℕ) → x .r ≡ Misses c n
       → (y .r ≡ Misses c n)
       × ((ws : List Path) × (n ≡ length (cellsOf ws)) × (x .wit′ ≡ written (cellsOf ws) (x .wit)) × (y .wit′ ≡ written (cellsOf ws) (y .wit)))
@@ -105,29 +108,30 @@ pub record AreasAfter : Type 0 where
 
 -- ---- how late is the latest
 
--- A call of `latest`, with the two numbers beside its verdict. "Budget, areas, refusals and demand 3 read the same over this C": it is a call as above.
+-- A call of `latest`, and its whole answer.
 pub record LatestCall : Type 0 where
   pub call : Call
   pub asks : call .asked ≡ latest
-  pub finish : ℕ
-  pub cells : ℕ
-  pub promised : LatestJudged (call .text) (call .i) (call .v) (call .b) (call .work) (call .wit)
-      (record { verdict = call .r; finish = finish; cells = cells }) (call .work′) (call .wit′)
+  pub told : Lateness
+  pub promised : LatestJudged (call .text) (call .i) (call .v) (call .b) (call .work) (call .wit) told (call .work′) (call .wit′)
 
 -- "a figure beside "meets": the worst finish [..] with the first choice in document 01's order that reaches it, written to the witness area in its layout
 -- (so in this call a meets writes there too; the rest of it is unchanged, and unfinished doesn't touch it) [..]. A vertex that misses gives the old
 -- witness, with this call's C."
+--
+-- "Budget, areas, refusals and demand 3 read the same over this C": each answer of `latest` makes a call as above.
 pub record HowLate : Type 0 where
-  pub meets-worst : (x : LatestCall) (ts : Table) → Means (x .call) ts → (c : ℕ) → x .call .r ≡ Meets c → (ws : List Path)
-      × Worst ts (x .call .i) (x .call .v) (x .finish) ws × (x .call .wit′ ≡ written (cellsOf ws) (x .call .wit)) × (x .cells ≡ length (cellsOf ws))
-  pub misses-none : (x : LatestCall) (c n : ℕ) → x .call .r ≡ Misses c n → (x .finish ≡ 0) × (x .cells ≡ n)
-  pub unfinished-none : (x : LatestCall) (n : ℕ) → x .call .r ≡ Unfinished n → (x .finish ≡ 0) × (x .cells ≡ 0)
-  pub refused-none : (x : LatestCall) (at : RefusedAt) → x .call .r ≡ Refused at → (x .finish ≡ 0) × (x .cells ≡ 0)
-  pub meets-lasts : (x y : LatestCall) → Larger (x .call) (y .call) → (c : ℕ) → x .call .r ≡ Meets c → (y .finish ≡ x .finish) × (y .cells ≡ x .cells)
+  pub is-call : (text : List ℕ) (i v b : ℕ) (work wit : List ℕ) (r : Lateness) (work′ wit′ : List ℕ) → LatestJudged text i v b work wit r work′ wit′
+      → JudgedBy latest text i v b work wit (verdictIn r) work′ wit′
+  pub meets-worst : (x : LatestCall) (ts : Table) → Means (x .call) ts → (c : ℕ) (t : Ticks) (n : ℕ) → x .told ≡ Late.Meets c t n → (ws : List Path)
+      × Worst ts (x .call .i) (x .call .v) (t .0) ws × (x .call .wit′ ≡ written (cellsOf ws) (x .call .wit)) × (n ≡ length (cellsOf ws))
+  pub meets-lasts : (x y : LatestCall) → Larger (x .call) (y .call) → (c : ℕ) (t : Ticks) (n : ℕ) → x .told ≡ Late.Meets c t n
+      → (y .told ≡ Late.Meets c t n) × ((ws : List Path) × (n ≡ length (cellsOf ws))
+      × (x .call .wit′ ≡ written (cellsOf ws) (x .call .wit)) × (y .call .wit′ ≡ written (cellsOf ws) (y .call .wit)))
   pub old-witness : (x y : Call) → SameVertex x y → (c n c′ n′ : ℕ) → x .r ≡ Misses c n → y .r ≡ Misses c′ n′
-      → (n′ ≡ n) × ((ws : List Path) × (x .wit′ ≡ written (cellsOf ws) (x .wit)) × (y .wit′ ≡ written (cellsOf ws) (y .wit)))
-  pub alone : (x : LatestCall) (ts : Table) → Means (x .call) ts → (c : ℕ) → x .call .r ≡ Meets c → higher ts (x .call .i) ≡ []
-      → x .finish ≡ ownE ts (x .call .i) (x .call .v)
+      → (n′ ≡ n) × ((ws : List Path) × (n ≡ length (cellsOf ws)) × (x .wit′ ≡ written (cellsOf ws) (x .wit)) × (y .wit′ ≡ written (cellsOf ws) (y .wit)))
+  pub alone : (x : LatestCall) (ts : Table) → Means (x .call) ts → (c : ℕ) (t : Ticks) (n : ℕ) → x .told ≡ Late.Meets c t n → higher ts (x .call .i) ≡ []
+      → t .0 ≡ ownE ts (x .call .i) (x .call .v)
   pub agree : (x y : Call) → SameVertex x y → (c c′ n : ℕ) → x .r ≡ Meets c → y .r ≡ Misses c′ n → ⊥
   pub more : (text : List ℕ) (ts : Table) → read text ≡ readable ts → (i v : ℕ) → C plain ts i v ≤ C latest ts i v
 

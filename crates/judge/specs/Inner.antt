@@ -8,17 +8,18 @@ use Rattle.meaning.specs.Table.{Table, taskAt}
 use Rattle.meaning.specs.Text.{read, tasksOf}
 use Rattle.meaning.specs.Paths.{Path}
 use Rattle.meaning.specs.Verdict as Said
-use Rattle.meaning.specs.Verdict.{numbers, cellsOf, shownPaths, beside, Asked, plain, latest, deadline, worstAt, meetsPaths}
+use Rattle.meaning.specs.Verdict.{numbers, Asked, plain, latest, deadline, worstAt, meetsPaths}
 use Rattle.meaning.specs.Areas.{zeroed, workNeed, workAfter, witnessAfter}
 use Rattle.meaning.specs.Judge.{judged, answer}
 use Rattle.meaning.specs.Whole as Meant
 use Rattle.meaning.specs.Desk.{line, tableFrames}
 use Rattle.kinds.specs.declared.Verdict.{Verdict}
 use Rattle.kinds.specs.Numbers.{verdictNumbers}
-use Rattle.judge.specs.declared.Lateness.{Lateness}
+use Rattle.kinds.specs.declared.Lateness.{Lateness}
 use Rattle.counts.specs.declared.Counts.{Counts}
 use Rattle.counts.specs.Counts.{meantCounts}
 use Rattle.counts.specs.Place.{nextPlace}
+use Rattle.judge.specs.Judged.{AnsweredBy}
 
 -- ---- the vertices, in rising order of task and then vertex
 
@@ -48,21 +49,15 @@ pub record Answered (x : Said.Verdict) (us : List Path) (need : ℕ) (work wit :
   pub cells : work′ ≡ workAfter x need work
   pub paths : wit′ ≡ witnessAfter us x wit
 
--- with the bar's tick t beside a meets
-pub record AnsweredBy (x : Said.Verdict) (us : List Path) (t need : ℕ) (work wit : List ℕ) (r : Lateness) (work′ wit′ : List ℕ) : Type 0 where
-  pub answered : Answered x us need work wit (r .verdict) work′ wit′
-  pub finish : r .finish ≡ beside x t
-  pub written : r .cells ≡ length (cellsOf (shownPaths us x))
-
 -- of vertex v of task i
 abbrev pub VertexJudged : Asked → Table → ℕ → ℕ → ℕ → List ℕ → List ℕ → Lateness → List ℕ → List ℕ → Type 0
 VertexJudged asked ts i v b work wit r work′ wit′ =
-    AnsweredBy (judged asked ts i v b (length work) (length wit)) (meetsPaths asked ts i v) (lastTick asked ts i v) (workNeed ts i v) work wit r work′ wit′
+    AnsweredBy (judged asked ts i v b (length work) (length wit)) (lastTick asked ts i v) (meetsPaths asked ts i v) (workNeed ts i v) work wit r work′ wit′
 
 -- of a text
 abbrev pub TextJudged : Asked → List ℕ → ℕ → ℕ → ℕ → List ℕ → List ℕ → Lateness → List ℕ → List ℕ → Type 0
 TextJudged asked text i v b work wit r work′ wit′ =
-    AnsweredBy (answer asked text i v b (length work) (length wit)) (meetsPaths asked (tasksOf (read text)) i v) (lastTick asked (tasksOf (read text)) i v)
+    AnsweredBy (answer asked text i v b (length work) (length wit)) (lastTick asked (tasksOf (read text)) i v) (meetsPaths asked (tasksOf (read text)) i v)
     (workNeed (tasksOf (read text)) i v) work wit r work′ wit′
 
 -- the four counts, and every work cell

@@ -10,6 +10,7 @@ use counts::places::first_place;
 use counts::places::next_place;
 use desk_frames::counts_line;
 use desk_frames::vertex_lines;
+use kinds::verdict_in;
 use table::Table;
 ghost use Prim.Native.Nat.{_≤_};
 ghost use lib.ListN.{length};
@@ -31,7 +32,7 @@ pub(crate) fn table_lines(out: &mut [u8], t: Table) -> usize
         let task = place.task;
         let vertex = place.vertex;
         let told = judge_vertex(t, task, vertex, DESK_BUDGET, false, &mut work, &mut witness);
-        let verdict = told.verdict;
+        let verdict = verdict_in(told);
         at = vertex_lines(out, at, task, vertex, verdict, &witness);
         counts = counted(counts, verdict);
         let own = t.tasks[task.0 as usize];

@@ -11,11 +11,13 @@ use crate::whole::count_verdicts;
 use bounds::LONGEST_OUTPUT;
 use counts::Counts;
 use desk_frames::refusal_line;
+use kinds::Lateness;
 use kinds::Refusal;
 use kinds::RefusedAt;
 use kinds::TaskNumber;
 use kinds::Verdict;
 use kinds::VertexNumber;
+use kinds::verdict_in;
 use reader::Status;
 use reader::read;
 use sheet::input_too_long;
@@ -37,24 +39,6 @@ pub enum TableVerdict {
     Refused(RefusedAt),
 }
 
-// A verdict, and "how late is the latest?": beside a meets its worst finish, beside any other verdict 0; and how many witness cells were written.
-pub struct Lateness {
-    pub verdict: Verdict,
-    pub finish: u32,
-    pub cells: u32,
-}
-
-// A verdict that wrote no cells, and isn't meets.
-pub(crate) fn alone(verdict: Verdict) -> Lateness
-    ensures { λ r. ⌜ r ≡ record { verdict = verdict; finish = 0; cells = 0 } ⌝ }
-{
-    Lateness {
-        verdict,
-        finish: 0,
-        cells: 0,
-    }
-}
-
 // One vertex of the text's table, and where it is asked for how late its latest is; else the finish beside a meets is its deadline, where the bar was.
 fn judge_text(
     text: &[u8],
@@ -72,16 +56,16 @@ fn judge_text(
     let Status::Refused(at) = status else {
         let table = reading.table;
         if no_such(task.0, table.n) {
-            return alone(no_such_vertex());
+            return no_such_vertex();
         }
         let h = task.0 as usize;
         let own = table.tasks[h];
         if no_such(vertex.0, own.nv) {
-            return alone(no_such_vertex());
+            return no_such_vertex();
         }
         return judge_vertex(table, task, vertex, budget, late, work, witness);
     };
-    alone(Verdict::Refused(at))
+    Lateness::Refused(at)
 }
 
 // One vertex of the text's table. After meets, misses and unfinished the needed work cells are zero; a miss's paths are in the witness area.
@@ -95,8 +79,7 @@ pub fn judge(
 ) -> Verdict
     ensures { λ r. ⌜ Judged (now (text .entry)) (task .0) (vertex .0) budget (now (work .entry)) (now (witness .entry)) r (now (work .exit)) (now (witness .exit)) ⌝ }
 {
-    let told = judge_text(text, task, vertex, budget, false, work, witness);
-    told.verdict
+    verdict_in(judge_text(text, task, vertex, budget, false, work, witness))
 }
 
 // The same verdict over this call's own C, and how late the latest is: a meets comes with its worst finish, and the first paths that reach it are in the

@@ -2,15 +2,13 @@
 // where the latest finish is asked for a meets's too.
 //
 // The three loops over the higher tasks stand here, where the table is, and a task at a time is handed on: handing a whole table to a function copies it.
-use crate::Lateness;
-use crate::alone;
 use areas::above::none_above;
 use areas::above::with_paths;
 use areas::stretches::fill_stretch;
 use areas::witness::write_place;
 use bounds::MOST_PATHS;
+use kinds::Lateness;
 use kinds::TaskNumber;
-use kinds::Verdict;
 use kinds::VertexNumber;
 use paths::path_count;
 use search::first_bar;
@@ -49,14 +47,14 @@ pub(crate) fn judge_vertex(
         let paths = path_count(next, job.d, MOST_PATHS + 1);
         if MOST_PATHS < paths {
             let crowded = j as u8;
-            return alone(too_many_paths(TaskNumber(crowded)));
+            return too_many_paths(TaskNumber(crowded));
         }
         above = with_paths(above, j, paths, job.d);
         j += 1;
     }
     let rows = area_rows(above.rows, h, job.d, work.len(), witness.len());
     if let AreaRows::Refused(at) = rows {
-        return alone(Verdict::Refused(at));
+        return Lateness::Refused(at);
     }
     let mut k: usize = 0;
     while k < h {
@@ -78,9 +76,5 @@ pub(crate) fn judge_vertex(
         cells = write_place(witness, cells, next, job.d, places[i]);
         i += 1;
     }
-    Lateness {
-        verdict: said(ending, cells),
-        finish: walked.finish,
-        cells: cells as u32,
-    }
+    said(ending, walked.finish, cells)
 }

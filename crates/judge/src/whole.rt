@@ -7,6 +7,7 @@ use counts::counted;
 use counts::no_counts;
 use counts::places::first_place;
 use counts::places::next_place;
+use kinds::verdict_in;
 use table::Table;
 ghost use Rattle.table.specs.Inner.{tableOf, Held};
 ghost use Rattle.judge.specs.Inner.{TableCounted};
@@ -23,7 +24,7 @@ pub(crate) fn count_verdicts(t: Table, budget: u32, work: &mut [u32]) -> Counts
         let task = at.task;
         let vertex = at.vertex;
         let told = judge_vertex(t, task, vertex, budget, false, work, &mut witness);
-        let verdict = told.verdict;
+        let verdict = verdict_in(told);
         counts = counted(counts, verdict);
         let own = t.tasks[task.0 as usize];
         at = next_place(own.nv, at);

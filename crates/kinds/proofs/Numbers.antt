@@ -8,7 +8,9 @@ use Rattle.kinds.specs.declared.Refusal.the-variants.{BadLine, WrongFram
 use Rattle.kinds.specs.declared.Refusal.the-variants.{NoSuchVertex, TooManyPaths, WorkTooShort, WitnessTooShort, InputTooLong}
 use Rattle.kinds.specs.declared.Verdict.{Verdict}
 use Rattle.kinds.specs.declared.Verdict.the-variants.{Meets, Misses, Unfinished, Refused}
-use Rattle.kinds.specs.Numbers.{refusalNumber, verdictNumbers}
+use Rattle.kinds.specs.declared.Lateness.{Lateness}
+use Rattle.kinds.specs.declared.Lateness.the-variants as Late
+use Rattle.kinds.specs.Numbers.{refusalNumber, verdictNumbers, verdictIn, latenessNumbers}
 use lib.ListN.{getD}
 
 -- the refusal with number n, none beyond the sheet
@@ -75,3 +77,30 @@ verdict-of-numbers (Refused at) = ap (λ (r : Refusal). Refused (record { refusa
 
 pub same-verdict : (v w : Verdict) → verdictNumbers v ≡ verdictNumbers w → v ≡ w
 same-verdict v w q = sym (verdict-of-numbers v) ∙ ap verdictOf q ∙ verdict-of-numbers w
+
+-- an answer to "how late is the latest?" from its numbers
+abbrev latenessOf : List ℕ → Lateness
+latenessOf ns = getD (Late.Meets (getD ns 1 0) (record { 0 = getD ns 3 0 }) (getD ns 2 0) ∷ Late.Misses (getD ns 1 0) (getD ns 2 0)
+    ∷ Late.Unfinished (getD ns 1 0) ∷ Late.Refused (record { refusal = refusalOf (getD ns 1 0); place = getD ns 2 0 }) ∷ []) (getD ns 0 0) (Late.Unfinished 0)
+
+lateness-of-numbers : (r : Lateness) → latenessOf (latenessNumbers r) ≡ r
+lateness-of-numbers (Late.Meets c t n) = refl
+lateness-of-numbers (Late.Misses c n) = refl
+lateness-of-numbers (Late.Unfinished b) = refl
+lateness-of-numbers (Late.Refused at) = ap (λ (r : Refusal). Late.Refused (record { refusal = r; place = at .place })) (refusal-of-number (at .refusal))
+
+pub same-lateness : (r s : Lateness) → latenessNumbers r ≡ latenessNumbers s → r ≡ s
+same-lateness r s q = sym (lateness-of-numbers r) ∙ ap latenessOf q ∙ lateness-of-numbers s
+
+-- its first two numbers are its verdict's
+pub verdict-number : (r : Lateness) → getD (verdictNumbers (verdictIn r)) 0 0 ≡ getD (latenessNumbers r) 0 0
+verdict-number (Late.Meets c t n) = refl
+verdict-number (Late.Misses c n) = refl
+verdict-number (Late.Unfinished b) = refl
+verdict-number (Late.Refused at) = refl
+
+pub verdict-value : (r : Lateness) → getD (verdictNumbers (verdictIn r)) 1 0 ≡ getD (latenessNumbers r) 1 0
+verdict-value (Late.Meets c t n) = refl
+verdict-value (Late.Misses c n) = refl
+verdict-value (Late.Unfinished b) = refl
+verdict-value (Late.Refused at) = refl

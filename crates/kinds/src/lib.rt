@@ -3,7 +3,7 @@
 // "A refusal is carried inside the verdict as a number and its place": the verdict's refused case holds the refusal and its line, task or cell count.
 ghost use mathlib.Core.Path.{_≡_};
 ghost use lib.ListN.{getD};
-ghost use Rattle.kinds.specs.Numbers.{refusalNumber, verdictNumbers};
+ghost use Rattle.kinds.specs.Numbers.{refusalNumber, verdictNumbers, verdictIn, latenessNumbers};
 
 pub struct Ticks(pub u16);
 
@@ -36,6 +36,14 @@ pub struct RefusedAt {
 // Meets with C; misses with C and the cells written; unfinished with the budget.
 pub enum Verdict {
     Meets(u32),
+    Misses(u32, u32),
+    Unfinished(u32),
+    Refused(RefusedAt),
+}
+
+// "How late is the latest?" Beside a meets, the worst finish and the cells written.
+pub enum Lateness {
+    Meets(u32, Ticks, u32),
     Misses(u32, u32),
     Unfinished(u32),
     Refused(RefusedAt),
@@ -97,5 +105,41 @@ pub fn verdict_place(v: Verdict) -> u32
         Verdict::Misses(_, cells) => cells,
         Verdict::Unfinished(_) => 0,
         Verdict::Refused(at) => at.place,
+    }
+}
+
+// An answer to "how late is the latest?" as a verdict alone.
+pub fn verdict_in(late: Lateness) -> Verdict
+    ensures { λ v. ⌜ v ≡ verdictIn late ⌝ }
+{
+    match late {
+        Lateness::Meets(count, _, _) => Verdict::Meets(count),
+        Lateness::Misses(count, cells) => Verdict::Misses(count, cells),
+        Lateness::Unfinished(budget) => Verdict::Unfinished(budget),
+        Lateness::Refused(at) => Verdict::Refused(at),
+    }
+}
+
+// The cells written by a meets or a miss, the place of a refusal, else zero.
+pub fn lateness_place(late: Lateness) -> u32
+    ensures { λ n. ⌜ n ≡ getD (latenessNumbers late) 2 0 ⌝ }
+{
+    match late {
+        Lateness::Meets(_, _, cells) => cells,
+        Lateness::Misses(_, cells) => cells,
+        Lateness::Unfinished(_) => 0,
+        Lateness::Refused(at) => at.place,
+    }
+}
+
+// The worst finish beside a meets, else zero.
+pub fn lateness_finish(late: Lateness) -> u16
+    ensures { λ n. ⌜ n ≡ getD (latenessNumbers late) 3 0 ⌝ }
+{
+    match late {
+        Lateness::Meets(_, finish, _) => finish.0,
+        Lateness::Misses(_, _) => 0,
+        Lateness::Unfinished(_) => 0,
+        Lateness::Refused(_) => 0,
     }
 }

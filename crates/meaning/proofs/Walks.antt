@@ -1,6 +1,6 @@
 -- The two walks, each an instance of the run: with the bar at d from the start, document 01's; with the bar at 0, that for the latest finish.
 use mathlib.Core.Path.{_≡_, refl, sym, ap, subst, _∙_}
-use Prim.Native.Nat.{ℕ, _-_, _*_, _≤_, zero-le}
+use Prim.Native.Nat.{ℕ, suc, _-_, _*_, _≤_, zero-le}
 use native.Mathlib.Nat.{le-refl}
 use native.Mathlib.Omega.{arith}
 use mathlib.Core.Bool.{Bool, true}
@@ -10,9 +10,11 @@ use lib.ListN.{length}
 use lib.Dec.{T, ltb}
 use borrow.Author.Tests.{lt-ltb, ltb-true}
 use Rattle.meaning.specs.Lists.{sum, firstThat}
-use Rattle.meaning.specs.Groups.{choiceOverloads, overloads, groupFinish, choices, P, Spot, count, witness, latestYet, lateCount, worst, worstChoice}
+use Rattle.meaning.specs.Groups.{choiceLoads, choiceOverloads, choiceFinish, overloads, groupFinish, choices, P, Spot}
+use Rattle.meaning.specs.Groups.{count, witness, latestYet, lateCount, worst, worstChoice}
 use Rattle.meaning.specs.Walk.{full, Bar, barAt, End, missed, met, endBy, worstBar, Sees}
 use Rattle.meaning.proofs.Firsts.{none-any, any-mem}
+use Rattle.meaning.proofs.Finish.{finish-most}
 use Rattle.meaning.proofs.Groups.{full-in, in-choices, excess-le, group-late, group-finishes}
 use Rattle.meaning.proofs.Bars.{reachedBy, latest-some, risen, worst-most, risen-quiet, risen-zero, later-all, not-late}
 use Rattle.meaning.proofs.Counting.{kept-more}
@@ -102,6 +104,11 @@ module _ {X : Type 0} (load : X → ℕ → ℕ) (e d : ℕ) where
       go : (cs : List (List X)) → choices top ≡ cs → (c : List X) × (reachedBy load e d (choices top) ≡ some c)
       go [] q = let c = full-in top f in absurd (List·Memᴰ·not-nil (subst (λ (l : List (List X)). List·Memᴰ (c .0) l) q (in-choices (c .0) top (c .1))))
       go (k ∷ cs) q = let b = latest-some load e d k cs in (b .0, ap (reachedBy load e d) q ∙ b .1)
+
+  -- it is at most d + 1
+  pub worst-late : (top : List (List X)) → worst load e d top ≤ suc d
+  unfolding worst choiceFinish
+  worst-late top = worst-most load e d (choices top) (suc d) (λ c m. finish-most e d (choiceLoads load c))
 
   -- ---- the latest finish takes no fewer groups
 

@@ -1,4 +1,4 @@
--- The bench examples R1 to R8, and what some of them give where the latest finish is asked for, as one table under one claim; `proofs/Bench` proves it.
+-- The bench examples R1 to R8, and tables of which the latest finish is asked, as one table under one claim; `proofs/Bench` proves it.
 use Prim.Native.Nat.{ℕ, _-_, _*_}
 use Prim.Native.Char.{code}
 use Prim.Native.String.{String, [] as []ˢ, _∷_ as _∷ˢ_}
@@ -10,11 +10,11 @@ use Rattle.meaning.specs.Bounds.{deskBudget, deskWork, deskWitness}
 use Rattle.meaning.specs.Table.{Task, Table, vertex, edge, task}
 use Rattle.meaning.specs.Paths.{completePaths}
 use Rattle.meaning.specs.Groups.{P}
-use Rattle.meaning.specs.Verdict.{Verdict, numbers, cellsOf, missPaths, shownPaths, beside, plain, latest, topAt, worstAt, latestPaths}
+use Rattle.meaning.specs.Verdict.{Verdict, numbers, cellsOf, missPaths, lateNumbers, shownPaths, plain, latest, topAt, worstAt, latestPaths}
 use Rattle.meaning.specs.Judge.{judged}
 use Rattle.meaning.specs.Desk.{output}
 
--- ---- what the definitions give, beside what the document says
+-- ---- what the definitions give, beside what the document says, or its rules by hand
 
 pub record Example : Type 0 where
   pub got : List ℕ
@@ -72,22 +72,27 @@ r1Out = "1000000000000001\n1001000000000001\n1002000100000001\n1100020000\n11010
 abbrev pub pathList : Task → ℕ → List ℕ
 pathList k horizon = cellsOf (completePaths k horizon)
 
--- the first vertex of task i with budget b and the desk's areas: the verdict in numbers, then a miss's cells
+-- the verdict in numbers, then a miss's cells
 abbrev pub shown : Verdict → List ℕ
 shown x = numbers x ++ cellsOf (missPaths x)
 
+-- the first vertex of task i, with budget b and the desk's areas
 abbrev pub judgedWith : ℕ → Table → ℕ → List ℕ
 judgedWith b ts i = shown (judged plain ts i 0 b deskWork deskWitness)
 
--- where the latest finish is asked for: the verdict in numbers, the figure beside it, then the cells written
+-- where the latest finish is asked for: the answer in numbers, then the cells written
 abbrev pub lateWith : ℕ → Table → ℕ → List ℕ
 lateWith b ts i =
     let x = judged latest ts i 0 b deskWork deskWitness in
-    numbers x ++ (beside x (worstAt ts i 0) ∷ cellsOf (shownPaths (latestPaths ts i 0) x))
+    lateNumbers (worstAt ts i 0) (latestPaths ts i 0) x ++ cellsOf (shownPaths (latestPaths ts i 0) x)
 
 -- above, four vertices of these e, no edges; judged e 2, d 6
 abbrev pub below : ℕ → ℕ → ℕ → ℕ → Table
 below a b c d = task (vertex a 5 ∷ vertex b 5 ∷ vertex c 5 ∷ vertex d 5 ∷ []) [] ∷ lone 2 6 ∷ []
+
+-- above, two tasks of two such vertices each; judged e 1, d 6
+abbrev pub belowTwo : ℕ → ℕ → ℕ → ℕ → Table
+belowTwo a b c d = task (vertex a 5 ∷ vertex b 5 ∷ []) [] ∷ task (vertex c 5 ∷ vertex d 5 ∷ []) [] ∷ lone 1 6 ∷ []
 
 abbrev pub examples : List Example
 examples =
@@ -114,28 +119,30 @@ examples =
     ∷ (judgedWith 5 r7 1 gives (0 ∷ 5 ∷ []))
     ∷ (judgedWith 6 r7 1 gives (0 ∷ 5 ∷ []))
     -- how late is the latest. R2: C = 1, tick 5, paths (0,0) and (0)
-    ∷ (lateWith deskBudget r2 2 gives (0 ∷ 1 ∷ 5 ∷ 2 ∷ 0 ∷ 0 ∷ 1 ∷ 0 ∷ []))
+    ∷ (lateWith deskBudget r2 2 gives (0 ∷ 1 ∷ 5 ∷ 5 ∷ 2 ∷ 0 ∷ 0 ∷ 1 ∷ 0 ∷ []))
     -- R4 misses as before
-    ∷ (lateWith deskBudget (lone 3 2 ∷ []) 0 gives (1 ∷ 1 ∷ 0 ∷ 0 ∷ []))
+    ∷ (lateWith deskBudget (lone 3 2 ∷ []) 0 gives (1 ∷ 1 ∷ 0 ∷ []))
     -- nothing above: e itself, no cells
-    ∷ (lateWith deskBudget (lone 2 5 ∷ []) 0 gives (0 ∷ 1 ∷ 2 ∷ []))
+    ∷ (lateWith deskBudget (lone 2 5 ∷ []) 0 gives (0 ∷ 1 ∷ 0 ∷ 2 ∷ []))
     -- R5: (0) finishes at 3, (1) at 5; R6 misses as before, with this C
-    ∷ (lateWith deskBudget (r5 5) 1 gives (0 ∷ 3 ∷ 5 ∷ 1 ∷ 1 ∷ []))
-    ∷ (lateWith deskBudget (r5 4) 1 gives (1 ∷ 3 ∷ 2 ∷ 0 ∷ 1 ∷ 1 ∷ []))
-    -- R7: finishes 4, 2 and 5, and budgets as R8
-    ∷ (lateWith deskBudget r7 1 gives (0 ∷ 5 ∷ 5 ∷ 1 ∷ 2 ∷ []))
-    ∷ (lateWith 4 r7 1 gives (2 ∷ 4 ∷ 0 ∷ []))
+    ∷ (lateWith deskBudget (r5 5) 1 gives (0 ∷ 3 ∷ 2 ∷ 5 ∷ 1 ∷ 1 ∷ []))
+    ∷ (lateWith deskBudget (r5 4) 1 gives (1 ∷ 3 ∷ 2 ∷ 1 ∷ 1 ∷ []))
+    -- R7: finishes 4, 2 and 5, and a budget below C
+    ∷ (lateWith deskBudget r7 1 gives (0 ∷ 5 ∷ 2 ∷ 5 ∷ 1 ∷ 2 ∷ []))
+    ∷ (lateWith 4 r7 1 gives (2 ∷ 4 ∷ []))
     -- the first path finishes at 6, and the second half of the range at 3: it is passed over
     ∷ (judgedWith deskBudget (below 4 1 1 1) 1 gives (0 ∷ 1 ∷ []))
-    ∷ (lateWith 4 (below 4 1 1 1) 1 gives (2 ∷ 4 ∷ 0 ∷ []))
-    ∷ (lateWith 5 (below 4 1 1 1) 1 gives (0 ∷ 5 ∷ 6 ∷ 1 ∷ 0 ∷ []))
+    ∷ (lateWith 4 (below 4 1 1 1) 1 gives (2 ∷ 4 ∷ []))
+    ∷ (lateWith 5 (below 4 1 1 1) 1 gives (0 ∷ 5 ∷ 2 ∷ 6 ∷ 1 ∷ 0 ∷ []))
     -- so it is when it finishes no earlier and no later, and the first choice stays
-    ∷ (lateWith 5 (below 1 1 1 1) 1 gives (0 ∷ 5 ∷ 3 ∷ 1 ∷ 0 ∷ []))
+    ∷ (lateWith 5 (below 1 1 1 1) 1 gives (0 ∷ 5 ∷ 2 ∷ 3 ∷ 1 ∷ 0 ∷ []))
     -- a tick later it isn't, and the last choice is the latest
-    ∷ (lateWith deskBudget (below 1 1 1 2) 1 gives (0 ∷ 7 ∷ 4 ∷ 1 ∷ 3 ∷ []))
+    ∷ (lateWith deskBudget (below 1 1 1 2) 1 gives (0 ∷ 7 ∷ 2 ∷ 4 ∷ 1 ∷ 3 ∷ []))
+    -- two tasks above: (0) and (1) finish at 5, and the second half of the first task's range at 4
+    ∷ (lateWith deskBudget (belowTwo 2 1 1 2) 2 gives (0 ∷ 5 ∷ 4 ∷ 5 ∷ 1 ∷ 0 ∷ 1 ∷ 1 ∷ []))
     -- a miss, with the old witness and this call's C: document 01's walk doesn't go into the first half of the range
     ∷ (judgedWith deskBudget (below 1 1 5 1) 1 gives (1 ∷ 4 ∷ 2 ∷ 1 ∷ 2 ∷ []))
-    ∷ (lateWith deskBudget (below 1 1 5 1) 1 gives (1 ∷ 6 ∷ 2 ∷ 0 ∷ 1 ∷ 2 ∷ []))
+    ∷ (lateWith deskBudget (below 1 1 5 1) 1 gives (1 ∷ 6 ∷ 2 ∷ 1 ∷ 2 ∷ []))
     ∷ []
 
 -- the claim

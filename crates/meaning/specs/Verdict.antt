@@ -1,7 +1,7 @@
 -- The verdict on a vertex under the tasks of higher priority, with a budget.
 use Prim.Native.Nat.{ℕ}
 use mathlib.Core.Option.{Option, none, some}
-use mathlib.Core.List.{List, [], _∷_, map}
+use mathlib.Core.List.{List, [], _∷_, _++_, map}
 use lib.ListN.{length, getD}
 use lib.Dec.{ltb, eqb}
 use Rattle.meaning.specs.Lists.{pick, gather, orGiven}
@@ -31,9 +31,9 @@ numbers (refused k place) = 3 ∷ k ∷ place ∷ []
 abbrev pub kindOf : Verdict → ℕ
 kindOf x = getD (numbers x) 0 0
 
--- "a figure beside meets", and 0 beside any other verdict
-abbrev pub beside : Verdict → ℕ → ℕ
-beside x n = pick (eqb (kindOf x) 0) n 0
+-- where the latest finish is asked for, a meets also counts the cells of the paths us, as a miss does its own, and has "a figure beside" it, t
+abbrev pub lateNumbers : ℕ → List Path → Verdict → List ℕ
+lateNumbers t us x = numbers x ++ pick (eqb (kindOf x) 0) (length (cellsOf us) ∷ t ∷ []) []
 
 -- the paths that cause a miss; these with a meets; none with any other verdict
 abbrev pub shownPaths : List Path → Verdict → List Path

@@ -11,7 +11,8 @@ use mathlib.Core.List.{List, [], _∷_, _++_}
 use lib.ListN.{length}
 use lib.Dec.{T, ltb}
 use Rattle.meaning.specs.Lists.{pick, all}
-use Rattle.meaning.specs.Groups.{choiceOverloads, choiceFinish, overloads, groupFinish, firstPart, secondPart, single, childBy, Placed, allGroups, count, witness, lateCount, worst, worstChoice}
+use Rattle.meaning.specs.Groups.{choiceOverloads, choiceFinish, overloads, groupFinish, firstPart, secondPart, single, childBy}
+use Rattle.meaning.specs.Groups.{Placed, allGroups, count, witness, lateCount, worst, worstChoice}
 
 module _ {X : Type 0} where
   abbrev pub firstChild : List (List X) → List (List X)
@@ -113,6 +114,6 @@ module _ {X : Type 0} where
   InOrder before [] = Unit {0}
   InOrder before (q ∷ qs) = (q .spot .before ≡ before) × InOrder (before ++ ownChoice q) qs
 
--- Each group has before it the single choices of the groups that stand before it in the walk's order, and no others. A group's parents are spots of this list.
+-- Each group has before it the single choices of the groups that stand before it in the walk's order, and no others.
 abbrev pub ChoicesBefore : Type 1
 ChoicesBefore = (X : Type 0) (top : List (List X)) → T (full top) → InOrder [] (allGroups top)

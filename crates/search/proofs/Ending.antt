@@ -15,11 +15,11 @@ use Rattle.meaning.specs.Table as Meant
 use Rattle.meaning.specs.Paths.{Path, pathsOf}
 use Rattle.meaning.specs.Groups.{witness, worstChoice}
 use Rattle.meaning.specs.Walk.{full, Bar, barAt, End, met, endBy, worstBar, Sees}
-use Rattle.meaning.specs.Verdict.{meets, misses, unfinished, shownPaths, beside, Listed, loadOf, listed, topOf, pathsIn, decided, Asked, plain, latest}
-use Rattle.meaning.specs.Verdict.{countOf, walked}
+use Rattle.meaning.specs.Verdict.{Verdict, meets, misses, unfinished, refused, shownPaths, Listed, loadOf, listed, topOf, pathsIn, decided}
+use Rattle.meaning.specs.Verdict.{Asked, plain, latest, countOf, walked}
 use Rattle.meaning.proofs.Lists.{getD-mapped}
 use Rattle.meaning.proofs.Choices.{top-full}
-use Rattle.meaning.proofs.Walks.{end-met, end-missed, walk-sees, late-walk-sees, worst-some}
+use Rattle.meaning.proofs.Walks.{end-met, end-missed, walk-sees, late-walk-sees, worst-some, worst-late}
 use Rattle.ways.specs.Ways.{mostCounted}
 use Rattle.walk.specs.declared.Ending.{Ending}
 use Rattle.walk.specs.declared.Ending.the-variants.{Meets, Misses, Unfinished}
@@ -33,7 +33,7 @@ use Rattle.areas.specs.Stretches.{stretches}
 use Rattle.areas.specs.Witness.{pathsAt}
 use Rattle.areas.proofs.Witnesses.{places-length}
 use Rattle.areas.proofs.Filling.{Few, at}
-use Rattle.search.specs.Meant.{meantBy, firstBar, written}
+use Rattle.search.specs.Meant.{beside, meantBy, firstBar, written}
 use Rattle.search.proofs.Joining.{group-many, group-length, counts-are, rows-hold, walkable}
 
 -- ---- the verdict, from C and the witness
@@ -59,6 +59,12 @@ lastBar latest e d top = worstBar loadOf e d top
 abbrev pub meetsOf : Asked → List Meant.Task → ℕ → ℕ → List Path
 meetsOf plain ks e d = []
 meetsOf latest ks e d = pathsIn (orGiven [] (worstChoice loadOf e d (topOf ks d)))
+
+beside-less : (x : Verdict) (n : ℕ) → beside x n ≤ n
+beside-less (meets c) n = le-refl n
+beside-less (misses c ws) n = omega arith
+beside-less (unfinished b) n = omega arith
+beside-less (refused k place) n = omega arith
 
 pub written-few : (asked : Asked) (x : Ending) (h : ℕ) → written asked x h ≤ h
 written-few asked (Misses n) h = le-refl h
@@ -146,6 +152,15 @@ module _ (asked : Asked) (ks : List Meant.Task) (d : ℕ) (few : Few ks d) (e b 
         by (Meets n) m s = met-bar n m .2 ∙ ap (λ (t : Bar Listed). t .tick) (sym (bar-is n m))
         by (Misses n) m s = s .4
         by (Unfinished n) m s = s .2
+
+    -- none is later than d + 1
+    pub finish-low : r .finish ≤ suc d
+    finish-low =
+        omega (arith, finish-is, beside-less (meantBy (r .ending) (pathsAt ks d (r .places))) (lastBar asked e d top .tick), low asked)
+      where
+        low : (z : Asked) → lastBar z e d top .tick ≤ suc d
+        low plain = omega arith
+        low latest = worst-late loadOf e d top
 
 -- where the latest finish is asked for, the paths at the places are the first that reach the worst
 late-places : (ks : List Meant.Task) (d : ℕ) (few : Few ks d) (e b : ℕ) (o : e ≤ largestE) (r : Walked) → r ≡ ran latest ks d few e b o

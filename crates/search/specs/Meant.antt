@@ -2,8 +2,10 @@
 use Prim.Native.Nat.{ℕ}
 use mathlib.Core.Bool.{Bool, true, false}
 use mathlib.Core.List.{List}
+use lib.Dec.{eqb}
+use Rattle.meaning.specs.Lists.{pick}
 use Rattle.meaning.specs.Paths.{Path}
-use Rattle.meaning.specs.Verdict.{Verdict, meets, misses, unfinished, Asked, plain, latest}
+use Rattle.meaning.specs.Verdict.{Verdict, kindOf, meets, misses, unfinished, Asked, plain, latest}
 use Rattle.walk.specs.declared.Ending.{Ending}
 use Rattle.walk.specs.declared.Ending.the-variants.{Meets, Misses, Unfinished}
 
@@ -12,6 +14,10 @@ abbrev pub meantBy : Ending → List Path → Verdict
 meantBy (Meets n) ws = meets n
 meantBy (Misses n) ws = misses n ws
 meantBy (Unfinished n) ws = unfinished n
+
+-- a number beside a meets, and 0 beside any other verdict
+abbrev pub beside : Verdict → ℕ → ℕ
+beside x n = pick (eqb (kindOf x) 0) n 0
 
 -- what a flag asks for
 abbrev pub askedBy : Bool → Asked

@@ -1,13 +1,13 @@
 // "After the text: 8, 9, 10, 11. Each is given exactly when its row holds and none before it in this order does." "12 is checked before all."
 // "Verdicts: meets with C, misses with C and the cells written, unfinished with the budget."
 //
-// The refusal sheet's rows 8 to 12 from numbers alone, and the verdict from a walk's ending: no table is known here.
+// The refusal sheet's rows 8 to 12 from numbers alone, and the answer from a walk's ending: no table is known here.
 use bounds::LONGEST_INPUT;
+use kinds::Lateness;
 use kinds::Refusal;
 use kinds::RefusedAt;
 use kinds::TaskNumber;
 use kinds::Ticks;
-use kinds::Verdict;
 use walk::Ending;
 ghost use mathlib.Core.Path.{_≡_};
 ghost use Prim.Native.Nat.{_+_, _*_, _≤_};
@@ -29,19 +29,19 @@ pub fn no_such(number: u8, count: usize) -> bool
     count <= number as usize
 }
 
-pub fn no_such_vertex() -> Verdict
+pub fn no_such_vertex() -> Lateness
     ensures { λ r. ⌜ r ≡ noSuchVertex ⌝ }
 {
     let refusal = Refusal::NoSuchVertex;
-    Verdict::Refused(RefusedAt { refusal, place: 0 })
+    Lateness::Refused(RefusedAt { refusal, place: 0 })
 }
 
 // Row 9, of the lowest-numbered task that it holds of.
-pub fn too_many_paths(task: TaskNumber) -> Verdict
+pub fn too_many_paths(task: TaskNumber) -> Lateness
     ensures { λ r. ⌜ r ≡ tooManyPaths (task .0) ⌝ }
 {
     let refusal = Refusal::TooManyPaths;
-    Verdict::Refused(RefusedAt {
+    Lateness::Refused(RefusedAt {
         refusal,
         place: task.0 as u32,
     })
@@ -79,15 +79,16 @@ pub fn input_too_long(bytes: usize) -> bool
     LONGEST_INPUT < bytes
 }
 
-// The verdict of a walk that ended so; after a miss, with the cells written.
-pub fn said(ending: Ending, cells: usize) -> Verdict
-    requires { ⌜ cells ≤ mostHigher * (1 + largestD) ⌝ }
-    ensures { λ r. ⌜ r ≡ saidOf ending cells ⌝ }
+// The answer of a walk that ended so, with the bar at this tick and so many cells written.
+pub fn said(ending: Ending, finish: u32, cells: usize) -> Lateness
+    requires { ⌜ (finish ≤ largestD + 1) × (cells ≤ mostHigher * (1 + largestD)) ⌝ }
+    ensures { λ r. ⌜ r ≡ saidOf ending finish cells ⌝ }
 {
+    let bar = Ticks(finish as u16);
     let place = cells as u32;
     match ending {
-        Ending::Meets(count) => Verdict::Meets(count),
-        Ending::Misses(count) => Verdict::Misses(count, place),
-        Ending::Unfinished(budget) => Verdict::Unfinished(budget),
+        Ending::Meets(count) => Lateness::Meets(count, bar, place),
+        Ending::Misses(count) => Lateness::Misses(count, place),
+        Ending::Unfinished(budget) => Lateness::Unfinished(budget),
     }
 }

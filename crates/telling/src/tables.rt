@@ -17,6 +17,8 @@ use judge::latest;
 use kinds::TaskNumber;
 use kinds::Verdict;
 use kinds::VertexNumber;
+use kinds::lateness_finish;
+use kinds::lateness_place;
 use reader::Status;
 use reader::read;
 use table::Table;
@@ -58,8 +60,8 @@ fn worst_of(
     };
     let told = latest(text, task, vertex, DESK_BUDGET, work, witness);
     Worst {
-        finish: told.finish,
-        cells: told.cells,
+        finish: lateness_finish(told) as u32,
+        cells: lateness_place(told),
     }
 }
 

@@ -1,6 +1,6 @@
 use Prim.Native.Nat.{_<_}
 use native.Mathlib.Omega.{arith}
-use mathlib.Core.Path.{sym, _∙_}
+use mathlib.Core.Path.{refl, sym, _∙_}
 use borrow.Author.Tests.{leb-true, leb-false}
 use Rattle.reader.proofs.Result.{table-read, line-refused}
 use Rattle.table.proofs.Records.{held-few}
@@ -26,12 +26,9 @@ no-such-requires c κs = search needs
 no-such-vertex-requires : tie.Need-no-such-vertex-requires
 no-such-vertex-requires c κs = search needs
 
-alone-requires : tie.Need-alone-requires
-alone-requires c κs = search needs
-
 returns : tie.Need-returns
 returns c =
-    let asked = c .before .before in
+    let asked = c .before in
     let sought = asked .before in
     let told = sought .before .before in
     let was = told .before .before in
@@ -42,7 +39,7 @@ returns c =
     (entry .args .vertex .0) (entry .args .budget) (entry .args .work .now)
     (entry .args .witness .now) (was .read .result .table) _ _ _ table
     (answer-8 (askedBy (entry .args .late)) (was .read .result .table) (read-held table) (entry .args .task .0) (entry .args .vertex .0) (entry .args .budget)
-    (entry .args .work .now) (entry .args .witness .now) h (c .alone .ensures) (c .before .no-such-vertex .ensures))
+    (entry .args .work .now) (entry .args .witness .now) h (c .no-such-vertex .ensures))
 
 cast-h : tie.Need-cast-h
 cast-h c = search needs
@@ -68,12 +65,9 @@ no-such-requires-2 c κs = search needs
 no-such-vertex-requires-2 : tie.Need-no-such-vertex-requires-2
 no-such-vertex-requires-2 c κs = search needs
 
-alone-requires-2 : tie.Need-alone-requires-2
-alone-requires-2 c κs = search needs
-
 returns-2 : tie.Need-returns-2
 returns-2 c =
-    let asked2 = c .before .before in
+    let asked2 = c .before in
     let sought2 = asked2 .before in
     let asked = sought2 .before .before .before in
     let sought = asked .before in
@@ -89,7 +83,7 @@ returns-2 c =
     (entry .args .witness .now) (was .read .result .table) _ _ _ table
     (answer-8-vertex (askedBy (entry .args .late)) (was .read .result .table)
     (read-held table) (entry .args .task .0) (entry .args .vertex .0) (entry .args .budget)
-    (entry .args .work .now) (entry .args .witness .now) l h (c .alone2 .ensures) (c .before .no-such-vertex2 .ensures))
+    (entry .args .work .now) (entry .args .witness .now) l h (c .no-such-vertex2 .ensures))
 
 judge-vertex-requires : tie.Need-judge-vertex-requires
 judge-vertex-requires c κs =
@@ -126,18 +120,15 @@ returns-3 c =
     (entry .args .vertex .0) (entry .args .budget) (entry .args .work .now)
     (entry .args .witness .now) (was .read .result .table) (said .judge-vertex .result) _ _ table (said .judge-vertex .ensures)
 
-alone-requires-3 : tie.Need-alone-requires-3
-alone-requires-3 c κs = search needs
-
 returns-4 : tie.Need-returns-4
 returns-4 c =
-    let told = c .before .before in
+    let told = c .before in
     let was = told .before .before in
     let entry = was .before .before .before .before in
     let line = line-refused (entry .args .text .now) (was .read .result) (was .read .ensures) (told .status .given .1) in
     text-refuses (askedBy (entry .args .late)) (entry .args .text .now) (entry .args .task .0)
     (entry .args .vertex .0) (entry .args .budget) (entry .args .work .now)
-    (entry .args .witness .now) (told .status .given .0 .0) line (c .alone3 .ensures)
+    (entry .args .witness .now) (told .status .given .0 .0) line refl
 
 pub judge-text-spec : {M : Type 1} → statement M
 judge-text-spec =
@@ -148,18 +139,15 @@ judge-text-spec =
     enum-told
     no-such-requires
     no-such-vertex-requires
-    alone-requires
     returns
     cast-h
     mul-own
     element-copy-out-own
     no-such-requires-2
     no-such-vertex-requires-2
-    alone-requires-2
     returns-2
     judge-vertex-requires
     same-length
     same-length-2
     returns-3
-    alone-requires-3
     returns-4)

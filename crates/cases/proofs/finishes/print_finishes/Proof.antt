@@ -46,30 +46,40 @@ slice-aggregate-latest c = search needs
 latest-requires : tie.Need-latest-requires Inv-loop μ-loop
 latest-requires c κs = search needs
 
+verdict-in-requires : tie.Need-verdict-in-requires Inv-loop μ-loop
+verdict-in-requires c κs = search needs
+
 counted-requires : tie.Need-counted-requires Inv-loop μ-loop
 counted-requires c κs =
-    let test = c .before .before .before .before .before .before .before .before in
+    let test = c .before .before .before .before .before .before .before .before .before in
     asking-few (test .before .before .loop .inv .0) (test .if1 .taken)
+
+lateness-finish-requires : tie.Need-lateness-finish-requires Inv-loop μ-loop
+lateness-finish-requires c κs = search needs
+
+cast-sum : tie.Need-cast-sum Inv-loop μ-loop
+cast-sum c = search needs
 
 sum-requires : tie.Need-sum-requires Inv-loop μ-loop
 sum-requires c κs = search needs
 
 next-place-requires : tie.Need-next-place-requires Inv-loop μ-loop
 next-place-requires c κs =
-    let test = c .before .before .before .before .before .before .before .before .before .before in
+    let test = c .before .before .before .before .before .before .before .before .before .before .before .before in
     asking-within (test .before .before .loop .inv .0) (test .if1 .taken)
 
 loop-less : tie.Need-loop-less Inv-loop μ-loop
 loop-less c =
-    let test = c .before .before .before .before .before .before .before .before .before .before .before in
+    let test = c .before .before .before .before .before .before .before .before .before .before .before .before .before in
     asking-fewer (test .before .before .loop .inv .0) (test .if1 .taken) (c .next-place .ensures)
 
 loop-again : tie.Need-loop-again Inv-loop μ-loop
 loop-again c =
-    let asked = c .before .before .before .before .before .before in
+    let asked = c .before .before .before .before .before .before .before .before in
+    let said = c .before .before .before .before in
     let test = asked .before .before .before .before .before in
     let here = test .before .before .loop .inv .0 in
-    let more = asking-more here (test .if1 .taken) (c .next-place .ensures) (asked .latest .result .verdict) (c .before .before .counted .ensures) in
+    let more = asking-more here (test .if1 .taken) (c .next-place .ensures) (said .verdict-in .result) (c .before .before .before .counted .ensures) in
     (more, search needs, search needs)
 
 print-line-requires : tie.Need-print-line-requires Inv-loop μ-loop
@@ -96,7 +106,10 @@ print-finishes-spec =
     element-copy-out-own
     slice-aggregate-latest
     latest-requires
+    verdict-in-requires
     counted-requires
+    lateness-finish-requires
+    cast-sum
     sum-requires
     next-place-requires
     loop-less

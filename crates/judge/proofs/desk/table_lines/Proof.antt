@@ -39,18 +39,21 @@ judge-vertex-requires c κs =
     let test = c .before .before .before .before in
     so-far-there (test .before .before .loop .inv .so-far) (test .if1 .taken)
 
+verdict-in-requires : tie.Need-verdict-in-requires Inv-loop μ-loop
+verdict-in-requires c κs = search needs
+
 slice-aggregate-vertex-lines : tie.Need-slice-aggregate-vertex-lines Inv-loop μ-loop
 slice-aggregate-vertex-lines c = search needs
 
 vertex-lines-requires : tie.Need-vertex-lines-requires Inv-loop μ-loop
 vertex-lines-requires c κs =
-    let said = c .before .before .before .before in
+    let said = c .before .before .before .before .before in
     let test = said .before .before .before .before .before in
-    lines-ask (test .before .before .loop .inv) (test .if1 .taken) (said .judge-vertex .ensures .answered)
+    lines-ask (test .before .before .loop .inv) (test .if1 .taken) (said .judge-vertex .ensures) (c .before .before .verdict-in .ensures)
 
 counted-requires : tie.Need-counted-requires Inv-loop μ-loop
 counted-requires c κs =
-    let test = c .before .before .before .before .before .before .before .before .before .before .before .before in
+    let test = c .before .before .before .before .before .before .before .before .before .before .before .before .before in
     so-far-few (test .before .before .loop .inv .so-far) (test .if1 .taken)
 
 cast-own : tie.Need-cast-own Inv-loop μ-loop
@@ -61,27 +64,28 @@ mul-own c = search needs
 
 element-copy-out-own : tie.Need-element-copy-out-own Inv-loop μ-loop
 element-copy-out-own c =
-    let test = c .before .before .before .before .before .before .before .before .before .before .before .before .before .before in
+    let test = c .before .before .before .before .before .before .before .before .before .before .before .before .before .before .before in
     omega (arith, so-far-within (test .before .before .loop .inv .so-far) (test .if1 .taken) .task)
 
 next-place-requires : tie.Need-next-place-requires Inv-loop μ-loop
 next-place-requires c κs =
-    let test = c .before .before .before .before .before .before .before .before .before .before .before .before .before .before .before in
+    let test = c .before .before .before .before .before .before .before .before .before .before .before .before .before .before .before .before in
     so-far-within (test .before .before .loop .inv .so-far) (test .if1 .taken)
 
 loop-less : tie.Need-loop-less Inv-loop μ-loop
 loop-less c =
-    let test = c .before .before .before .before .before .before .before .before .before .before .before .before .before .before .before .before in
+    let test = c .before .before .before .before .before .before .before .before .before .before .before .before .before .before .before .before .before in
     let here = test .before .before .loop .inv .so-far in
     so-far-fewer here (test .if1 .taken) (so-far-after here (test .if1 .taken) (c .next-place .ensures))
 
 loop-again : tie.Need-loop-again Inv-loop μ-loop
 loop-again c =
     let put = c .before .before .before .before .before .before in
-    let said = put .before .before .before .before .before in
+    let said = put .before .before .before .before .before .before in
     let test = said .before .before .before .before .before in
     let here = test .before .before .loop .inv in
-    desking-more here (test .if1 .taken) (said .judge-vertex .ensures .answered) (put .vertex-lines .ensures) (search needs) (search needs)
+    desking-more here (test .if1 .taken) (said .judge-vertex .ensures) (put .before .before .before .verdict-in .ensures) (put .vertex-lines .ensures)
+    (said .judge-vertex .kept .1 .1 .1 .1 .1 .0) (said .judge-vertex .kept .1 .1 .1 .1 .1 .1 .0)
     (c .before .before .before .counted .ensures) (so-far-after (here .so-far) (test .if1 .taken) (c .next-place .ensures))
 
 counts-line-requires : tie.Need-counts-line-requires Inv-loop μ-loop
@@ -108,6 +112,7 @@ table-lines-spec =
     slice-aggregate-judge-vertex
     slice-aggregate-judge-vertex-2
     judge-vertex-requires
+    verdict-in-requires
     slice-aggregate-vertex-lines
     vertex-lines-requires
     counted-requires

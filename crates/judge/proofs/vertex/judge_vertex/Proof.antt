@@ -1,3 +1,4 @@
+use mathlib.Core.Path.{refl}
 use Prim.Native.Nat.{_-_, _≤_, _<_}
 use native.Mathlib.Omega.{arith}
 use borrow.Author.Needs.{needs}
@@ -12,7 +13,7 @@ use Rattle.judge.proofs.OneVertex.{Asked, AllCounted, RowsPassed, AllFi
 use Rattle.judge.proofs.OneVertex.{task-in, vertex-in, counting-none, count-asks, answer-9, with-paths-asks, counting-more, area-asks, answer-areas}
 use Rattle.judge.proofs.OneVertex.{filling-none}
 use Rattle.judge.proofs.OneVertex.{stretch-asks, filling-more, search-asks, ran-is, shown-within, writing-none, write-asks, writing-more, writing-all}
-use Rattle.judge.proofs.OneVertex.{cells-few}
+use Rattle.judge.proofs.OneVertex.{cells-few, finish-fits}
 use Rattle.judge.proofs.OneVertex.{answer-walked}
 use Rattle.judge.proofs.Missing.{MissTo}
 use Rattle.judge.proofs.vertex.judge_vertex.Statement.{statement}
@@ -136,18 +137,15 @@ cast-crowded c = search needs
 too-many-paths-requires : tie.Need-too-many-paths-requires Inv-loop μ-loop Inv-loop2 μ-loop2 Inv-loop3 μ-loop3
 too-many-paths-requires c κs = search needs
 
-alone-requires : tie.Need-alone-requires Inv-loop μ-loop Inv-loop2 μ-loop2 Inv-loop3 μ-loop3
-alone-requires c κs = search needs
-
 returns : tie.Need-returns Inv-loop μ-loop Inv-loop2 μ-loop2 Inv-loop3 μ-loop3
 returns c =
-    let at-if1 = c .before .before in
+    let at-if1 = c .before in
     let listed = at-if1 .before in
     let counted = listed .before .before in
     let counting = counted .before in
     let entry = counting .before .before .before .before .before .before .before .before .before in
     answer-9 (asked entry) (counting .loop .above) (counting .loop .j) (counting .loop .inv) _ (counted .loop-test .taken)
-    (listed .path-count .result) (listed .path-count .ensures) (at-if1 .if1 .taken) (c .alone .ensures) (c .before .too-many-paths .ensures)
+    (listed .path-count .result) (listed .path-count .ensures) (at-if1 .if1 .taken) (c .too-many-paths .ensures)
 
 with-paths-requires : tie.Need-with-paths-requires Inv-loop μ-loop Inv-loop2 μ-loop2 Inv-loop3 μ-loop3
 with-paths-requires c κs =
@@ -181,15 +179,12 @@ area-rows-requires c κs =
 enum-known-rows : tie.Need-enum-known-rows Inv-loop μ-loop Inv-loop2 μ-loop2 Inv-loop3 μ-loop3
 enum-known-rows c = search needs
 
-alone-requires-2 : tie.Need-alone-requires-2 Inv-loop μ-loop Inv-loop2 μ-loop2 Inv-loop3 μ-loop3
-alone-requires-2 c κs = search needs
-
 returns-2 : tie.Need-returns-2 Inv-loop μ-loop Inv-loop2 μ-loop2 Inv-loop3 μ-loop3
 returns-2 c =
-    let at-rows = c .before .before in
+    let at-rows = c .before in
     let sheet = at-rows .before .before in
     let counted = sheet .before in
-    answer-areas _ (counted-all counted) (sheet .area-rows .ensures) (at-rows .rows .given .1) (c .alone2 .ensures)
+    answer-areas _ (counted-all counted) (sheet .area-rows .ensures) (at-rows .rows .given .1) refl
 
 enum-told : tie.Need-enum-told Inv-loop μ-loop Inv-loop2 μ-loop2 Inv-loop3 μ-loop3
 enum-told c = search needs
@@ -291,10 +286,7 @@ loop3-again c =
     writing-more _ _ _ _ (ran searched) (showing .written-paths .ensures) _ (writing .loop3 .inv .0) (written .loop3-test .taken) (wrote .write-place .ensures)
 
 said-requires : tie.Need-said-requires Inv-loop μ-loop Inv-loop2 μ-loop2 Inv-loop3 μ-loop3
-said-requires c κs = cells-few _ _ _ _ (ran (searched-at c)) (all-written c)
-
-cast-t78 : tie.Need-cast-t78 Inv-loop μ-loop Inv-loop2 μ-loop2 Inv-loop3 μ-loop3
-cast-t78 c = let few = cells-few _ _ _ _ (ran (searched-at (c .before))) (all-written (c .before)) in omega arith
+said-requires c κs = (finish-fits _ _ _ _ (ran (searched-at c)), cells-few _ _ _ _ (ran (searched-at c)) (all-written c))
 
 same-length : tie.Need-same-length Inv-loop μ-loop Inv-loop2 μ-loop2 Inv-loop3 μ-loop3
 same-length c = search needs
@@ -331,7 +323,6 @@ judge-vertex-spec =
     path-count-requires
     cast-crowded
     too-many-paths-requires
-    alone-requires
     returns
     with-paths-requires
     add-j
@@ -339,7 +330,6 @@ judge-vertex-spec =
     loop-again
     area-rows-requires
     enum-known-rows
-    alone-requires-2
     returns-2
     enum-told
     loop2-holds
@@ -366,7 +356,6 @@ judge-vertex-spec =
     loop3-less
     loop3-again
     said-requires
-    cast-t78
     same-length
     same-length-2
     returns-3)

@@ -38,9 +38,12 @@ judge-vertex-requires c κs =
     let test = c .before .before .before .before in
     so-far-there (test .before .before .loop .inv .so-far) (test .if1 .taken)
 
+verdict-in-requires : tie.Need-verdict-in-requires Inv-loop μ-loop
+verdict-in-requires c κs = search needs
+
 counted-requires : tie.Need-counted-requires Inv-loop μ-loop
 counted-requires c κs =
-    let test = c .before .before .before .before .before .before .before .before in
+    let test = c .before .before .before .before .before .before .before .before .before in
     so-far-few (test .before .before .loop .inv .so-far) (test .if1 .taken)
 
 cast-own : tie.Need-cast-own Inv-loop μ-loop
@@ -51,27 +54,27 @@ mul-own c = search needs
 
 element-copy-out-own : tie.Need-element-copy-out-own Inv-loop μ-loop
 element-copy-out-own c =
-    let test = c .before .before .before .before .before .before .before .before .before .before in
+    let test = c .before .before .before .before .before .before .before .before .before .before .before in
     omega (arith, so-far-within (test .before .before .loop .inv .so-far) (test .if1 .taken) .task)
 
 next-place-requires : tie.Need-next-place-requires Inv-loop μ-loop
 next-place-requires c κs =
-    let test = c .before .before .before .before .before .before .before .before .before .before .before in
+    let test = c .before .before .before .before .before .before .before .before .before .before .before .before in
     so-far-within (test .before .before .loop .inv .so-far) (test .if1 .taken)
 
 loop-less : tie.Need-loop-less Inv-loop μ-loop
 loop-less c =
-    let test = c .before .before .before .before .before .before .before .before .before .before .before .before in
+    let test = c .before .before .before .before .before .before .before .before .before .before .before .before .before in
     let here = test .before .before .loop .inv .so-far in
     so-far-fewer here (test .if1 .taken) (so-far-after here (test .if1 .taken) (c .next-place .ensures))
 
 loop-again : tie.Need-loop-again Inv-loop μ-loop
 loop-again c =
-    let said = c .before .before .before .before .before .before .before in
+    let said = c .before .before .before .before .before .before .before .before in
     let test = said .before .before .before .before .before in
     let here = test .before .before .loop .inv in
-    judged-more here (test .if1 .taken) (said .judge-vertex .ensures) (said .judge-vertex .kept .1 .1 .1 .1 .1 .0)
-    (said .judge-vertex .kept .1 .1 .1 .1 .1 .1 .0) (c .before .before .before .counted .ensures)
+    judged-more here (test .if1 .taken) (said .judge-vertex .ensures) (c .before .before .before .before .verdict-in .ensures)
+    (said .judge-vertex .kept .1 .1 .1 .1 .1 .0) (said .judge-vertex .kept .1 .1 .1 .1 .1 .1 .0) (c .before .before .before .counted .ensures)
     (so-far-after (here .so-far) (test .if1 .taken) (c .next-place .ensures))
 
 same-length : tie.Need-same-length Inv-loop μ-loop
@@ -92,6 +95,7 @@ count-verdicts-spec =
     cast-if1
     slice-aggregate-judge-vertex
     judge-vertex-requires
+    verdict-in-requires
     counted-requires
     cast-own
     mul-own
