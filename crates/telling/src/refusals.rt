@@ -28,6 +28,13 @@ fn say_place(row: &[u8], place: u32, held_to: u32) {
     say_with(row, [place, held_to, 0, 0]);
 }
 
+// A lent area that is too short.
+fn say_short(area: &[u8], need: u32, cells: u32) {
+    say_with(b": #0 ", [need, 0, 0, 0]);
+    say(area);
+    say_with(b" cells are needed and there are #0", [cells, 0, 0, 0]);
+}
+
 // The rows that refuse a line, 1 to 7, and then those that refuse a vertex or an input.
 fn say_row(at: RefusedAt) {
     let refusal = at.refusal;
@@ -60,16 +67,8 @@ fn say_row(at: RefusedAt) {
             at.place,
             MOST_PATHS,
         ),
-        Refusal::WorkTooShort => say_place(
-            b"#0 work cells are needed and there are #1",
-            at.place,
-            DESK_WORK,
-        ),
-        Refusal::WitnessTooShort => say_place(
-            b"#0 witness cells are needed and there are #1",
-            at.place,
-            MOST_WITNESS,
-        ),
+        Refusal::WorkTooShort => say_short(b"work", at.place, DESK_WORK),
+        Refusal::WitnessTooShort => say_short(b"witness", at.place, MOST_WITNESS),
         Refusal::InputTooLong => {
             say_place(b"the input is longer than #1 bytes", 0, LONGEST_INPUT);
         }
