@@ -1,5 +1,5 @@
 -- The finish: the first free tick up to the deadline, or later than it. It grows with the loads.
-use mathlib.Core.Path.{_≡_, refl, ap}
+use mathlib.Core.Path.{_≡_, refl}
 use Prim.Native.Nat.{ℕ, suc, _+_, _≤_, _<_}
 use native.Mathlib.Nat.{le-refl}
 use native.Mathlib.Omega.{arith}
@@ -91,18 +91,21 @@ finish-alone e d f z a h =
     let l = z (finish e d f) in
     omega (arith, finish-least e d f e a (omega arith) (omega (arith, z e)))
 
--- ---- for code that looks for it: where no tick before t is free, t is the finish if it is free itself, and else the finish is behind it
+-- ---- for code that looks for it, where no tick from 1 to d is free before t (`busy`)
 
-pub finish-here : (e d : ℕ) (f : ℕ → ℕ) (t : ℕ) → t ≤ finish e d f → 1 ≤ t → t ≤ d → e + f t ≤ t → finish e d f ≡ t
-finish-here e d f t h a b k = omega (arith, finish-least e d f t a b k)
+module _ (e d : ℕ) (f : ℕ → ℕ) (t : ℕ) (busy : finish e d f ≤ d → t ≤ finish e d f) where
+  -- where t is free, it is the finish
+  pub finish-here : 1 ≤ t → t ≤ d → e + f t ≤ t → finish e d f ≡ t
+  finish-here a b k = let l = finish-least e d f t a b k in omega (arith, busy (omega arith))
 
-pub finish-past : (e d : ℕ) (f : ℕ → ℕ) (t : ℕ) → t ≤ finish e d f → t ≤ d → t < e + f t → t < finish e d f
-finish-past e d f t h a k =
-    elim (decLt t (finish e d f)) [
-      | yes l ↦ l
-      | no l ↦ let q : finish e d f ≡ t = omega arith in absurd (omega (arith, finish-free e d f (omega arith), ap f q))
-    ]
+  -- behind d, none is free
+  pub finish-late : d < t → finish e d f ≡ suc d
+  finish-late l =
+      elim (decLt d (finish e d f)) [
+        | yes k ↦ omega (arith, finish-most e d f)
+        | no k ↦ absurd (omega (arith, busy (omega arith)))
+      ]
 
--- where loads never fall (wish 2), nothing before the sum at t is free either
-pub finish-jump : (e d : ℕ) (f : ℕ → ℕ) → ((t u : ℕ) → t ≤ u → f t ≤ f u) → (t : ℕ) → t ≤ finish e d f → finish e d f ≤ d → e + f t ≤ finish e d f
-finish-jump e d f up t h k = omega (arith, up t (finish e d f) h, finish-free e d f k)
+  -- "Loads never fall as t grows, so when the sum at t is s, nothing before s can be free."
+  pub finish-jump : ((u : ℕ) → t ≤ u → u ≤ d → f t ≤ f u) → finish e d f ≤ d → e + f t ≤ finish e d f
+  finish-jump rises k = omega (arith, rises (finish e d f) (busy k) k, finish-free e d f k)

@@ -5,10 +5,13 @@ use Rattle.overload.proofs.loads_at.Statement.{statement}
 use Rattle.overload.proofs.loads_at.Tie as tie
 
 abbrev Inv-loop : tie.InvT-loop
-Inv-loop work base h d t sum₀ j₀ sum j = (j ≤ h) × Summed work base t j sum
+Inv-loop work base h d tick cell total₀ j₀ total j = (j ≤ h) × Summed work base cell j total
 
 abbrev μ-loop : tie.MeasureT-loop
-μ-loop work base h d t sum₀ j₀ sum j = h - j
+μ-loop work base h d tick cell total₀ j₀ total j = h - j
+
+sub-cell : tie.Need-sub-cell Inv-loop μ-loop
+sub-cell c = omega arith
 
 loop-holds : tie.Need-loop-holds Inv-loop μ-loop
 loop-holds c = (omega arith, summed-none)
@@ -23,28 +26,28 @@ add-i : tie.Need-add-i Inv-loop μ-loop
 add-i c =
     let l = c .before .before in
     let s = l .before in
-    let i = s .pre .1 .within (l .loop .j) (omega arith) in
+    let i = s .pre .2 .within (l .loop .j) (omega arith) in
     omega arith
 
-mul-sum : tie.Need-mul-sum Inv-loop μ-loop
-mul-sum c =
+mul-total : tie.Need-mul-total Inv-loop μ-loop
+mul-total c =
     let l = c .before .before in
     let s = l .before in
-    let i = s .pre .1 .within (l .loop .j) (omega arith) in
+    let i = s .pre .2 .within (l .loop .j) (omega arith) in
     omega arith
 
-shared-slice-read-sum : tie.Need-shared-slice-read-sum Inv-loop μ-loop
-shared-slice-read-sum c =
+shared-slice-read-total : tie.Need-shared-slice-read-total Inv-loop μ-loop
+shared-slice-read-total c =
     let l = c .before .before .before in
     let s = l .before in
-    let i = s .pre .1 .within (l .loop .j) (omega arith) in
+    let i = s .pre .2 .within (l .loop .j) (omega arith) in
     omega arith
 
-add-sum : tie.Need-add-sum Inv-loop μ-loop
-add-sum c =
+add-total : tie.Need-add-total Inv-loop μ-loop
+add-total c =
     let l = c .before .before .before in
     let s = l .before in
-    let w = s .pre .1 .cells (l .loop .j) (omega arith) (s .args .t) (s .pre .0) in
+    let w = s .pre .2 .cells (l .loop .j) (omega arith) (s .args .tick - 1) (omega arith) in
     omega arith
 
 add-j : tie.Need-add-j Inv-loop μ-loop
@@ -57,7 +60,7 @@ loop-again : tie.Need-loop-again Inv-loop μ-loop
 loop-again c =
     let l = c .before .before .before in
     let s = l .before in
-    let w = s .pre .1 .cells (l .loop .j) (omega arith) (s .args .t) (s .pre .0) in
+    let w = s .pre .2 .cells (l .loop .j) (omega arith) (s .args .tick - 1) (omega arith) in
     (omega arith, summed-more (l .loop .inv .1) (omega arith) w)
 
 returns : tie.Need-returns Inv-loop μ-loop
@@ -69,13 +72,14 @@ loads-at-spec =
     (tie.spec
     Inv-loop
     μ-loop
+    sub-cell
     loop-holds
     mul-i
     element-copy-out-i
     add-i
-    mul-sum
-    shared-slice-read-sum
-    add-sum
+    mul-total
+    shared-slice-read-total
+    add-total
     add-j
     loop-less
     loop-again
