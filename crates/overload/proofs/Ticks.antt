@@ -88,12 +88,12 @@ module _ {work : List ℕ} {d e : ℕ} {base : List ℕ} where
     unfolding rowsFinish
     reached-late l = omega (arith, finish-late e d (at work base) tick (r .busy) l)
 
--- where it isn't free: on at the sum
+-- on at any tick up to the sum
 pub reached-jump : {h d e : ℕ} {base work : List ℕ} {tick x : ℕ} → LightRows h d base work → Reached work d e (take h base) tick
-    → x ≡ at work (take h base) tick → tick ≤ d → tick < e + x → Reached work d e (take h base) (e + x)
+    → x ≡ at work (take h base) tick → {next : ℕ} → 1 ≤ next → next ≤ e + x → Reached work d e (take h base) next
 unfolding rowsFinish
-reached-jump {h} {d} {e} {base} {work} {tick} rows r is l s =
-    record { some = omega arith; busy = λ m. omega (arith, is, finish-jump e d (at work (take h base)) tick (r .busy) up m) }
+reached-jump {h} {d} {e} {base} {work} {tick} rows r is some most =
+    record { some = some; busy = λ m. omega (arith, is, most, finish-jump e d (at work (take h base)) tick (r .busy) up m) }
   where
     up : (u : ℕ) → tick ≤ u → u ≤ d → at work (take h base) tick ≤ at work (take h base) u
     up u a b = loads-rise rows (tick - 1) (u - 1) (omega arith) (omega (arith, r .some))

@@ -38,7 +38,7 @@ add-result : tie.Need-add-result Inv-loop μ-loop
 add-result c = omega (arith, c .before .before .before .pre .1 .short)
 
 returns-2 : tie.Need-returns-2 Inv-loop μ-loop
-returns-2 c = reached-late (c .before .loop .inv) (omega arith)
+returns-2 c = omega (arith, reached-late (c .before .loop .inv) (omega arith))
 
 pub finish-spec : {M : Type 1} → statement M
 finish-spec =

@@ -23,32 +23,18 @@ element-copy-out-i : tie.Need-element-copy-out-i Inv-loop μ-loop
 element-copy-out-i c = omega arith
 
 add-i : tie.Need-add-i Inv-loop μ-loop
-add-i c =
-    let l = c .before .before in
-    let s = l .before in
-    let i = s .pre .2 .within (l .loop .j) (omega arith) in
-    omega arith
+add-i c = let l = c .before .before in omega (arith, l .before .pre .2 .within (l .loop .j) (omega arith))
 
 mul-total : tie.Need-mul-total Inv-loop μ-loop
-mul-total c =
-    let l = c .before .before in
-    let s = l .before in
-    let i = s .pre .2 .within (l .loop .j) (omega arith) in
-    omega arith
+mul-total c = let l = c .before .before in omega (arith, l .before .pre .2 .within (l .loop .j) (omega arith))
 
 shared-slice-read-total : tie.Need-shared-slice-read-total Inv-loop μ-loop
-shared-slice-read-total c =
-    let l = c .before .before .before in
-    let s = l .before in
-    let i = s .pre .2 .within (l .loop .j) (omega arith) in
-    omega arith
+shared-slice-read-total c = let l = c .before .before .before in omega (arith, l .before .pre .2 .within (l .loop .j) (omega arith))
 
 add-total : tie.Need-add-total Inv-loop μ-loop
 add-total c =
     let l = c .before .before .before in
-    let s = l .before in
-    let w = s .pre .2 .cells (l .loop .j) (omega arith) (s .args .tick - 1) (omega arith) in
-    omega arith
+    omega (arith, l .before .pre .2 .cells (l .loop .j) (omega arith) (l .before .args .tick - 1) (omega arith))
 
 add-j : tie.Need-add-j Inv-loop μ-loop
 add-j c = omega arith
@@ -59,8 +45,7 @@ loop-less c = omega arith
 loop-again : tie.Need-loop-again Inv-loop μ-loop
 loop-again c =
     let l = c .before .before .before in
-    let s = l .before in
-    let w = s .pre .2 .cells (l .loop .j) (omega arith) (s .args .tick - 1) (omega arith) in
+    let w = l .before .pre .2 .cells (l .loop .j) (omega arith) (l .before .args .tick - 1) (omega arith) in
     (omega arith, summed-more (l .loop .inv .1) (omega arith) w)
 
 returns : tie.Need-returns Inv-loop μ-loop
