@@ -15,7 +15,8 @@ static const char *row_of(unsigned number) {
     switch (number) {
     case TECTAVIRIO_BAD_LINE: return "a line must be pairs of the digits 0-9a-f, at least one pair, and end in a line feed";
     case TECTAVIRIO_WRONG_FRAME: return "this kind of frame isn't allowed here, or its length is wrong for its kind";
-    case TECTAVIRIO_OUT_OF_BOUNDS: return "a number is outside its bounds, or an edge names a vertex that the task hasn't";
+    case TECTAVIRIO_OUT_OF_BOUNDS:
+        return "a number is outside its bounds, an edge names a vertex that the task hasn't, or the task's masked length exceeds its largest e";
     case TECTAVIRIO_DEADLINE_OVER_SEPARATION: return "the deadline of the edge's starting vertex exceeds the separation";
     case TECTAVIRIO_EDGE_NOT_AFTER: return "the edge doesn't come after the one before it in its task";
     case TECTAVIRIO_NO_END: return "the text ends and no end frame was read";

@@ -49,7 +49,7 @@ extern "C" {
 enum tectavirio_refusal {
     TECTAVIRIO_BAD_LINE = 1,
     TECTAVIRIO_WRONG_FRAME = 2,
-    TECTAVIRIO_OUT_OF_BOUNDS = 3,
+    TECTAVIRIO_OUT_OF_BOUNDS = 3, /* or m above its task's largest e, at the line of the task's last vertex */
     TECTAVIRIO_DEADLINE_OVER_SEPARATION = 4,
     TECTAVIRIO_EDGE_NOT_AFTER = 5,
     TECTAVIRIO_NO_END = 6,
@@ -80,7 +80,8 @@ static inline unsigned tectavirio_checked_line(uint32_t checked) { return checke
  * beside libhost.a. */
 uint32_t text_check(const uint8_t *text, size_t text_bytes);
 
-/* Judges one vertex of the text's table and gives its verdict's number. Task, vertex and budget are any numbers from 0 to 4,294,967,295.
+/* Judges one vertex of the text's table and gives its verdict's number. Task, vertex and budget are any numbers from 0 to 4,294,967,295. A lower task
+ * that masks interrupts holds the job up: it is judged by e + B, B being the largest masked length m among lower tasks, 0 if none.
  *
  *   verdict      *value                          *place
  *   meets        C, the groups examined          0
@@ -96,7 +97,7 @@ uint8_t tectavirio_judge(const uint8_t *text, size_t text_bytes, uint32_t task, 
                          uint16_t *witness, size_t witness_cells, uint32_t *value, uint32_t *place);
 
 /* Judges one vertex like tectavirio_judge, and says how late its latest is. For a choice of paths, one for each higher task, the finish is the first t
- * from 1 to d at which e plus the loads is at most t; the worst finish is the largest over all choices.
+ * from 1 to d at which e + B plus the loads is at most t; the worst finish is the largest over all choices.
  *
  *   verdict      *value                          *place                       *finish
  *   meets        C, the groups examined          the witness cells written    the worst finish, in ticks

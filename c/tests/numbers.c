@@ -145,12 +145,12 @@ static void take_counts(void) {
     expect_areas(4, 0, NULL);
 }
 
-/* The longest valid text: eight tasks with 12 vertices and 32 edges, and the end frame. A byte after it is 7, at the line after it. */
+/* The longest valid text: eight tasks with a masked length, 12 vertices and 32 edges, and the end frame. A byte after it is 7, at the line after it. */
 static void take_refusals(void) {
-    static char text[3931 + 2];
+    static char text[3963 + 2];
     size_t length = 0;
     for (int task = 0; task < TECTAVIRIO_MOST_TASKS; task++) {
-        length += (size_t)sprintf(text + length, "010c20\n");
+        length += (size_t)sprintf(text + length, "040c200001\n");
         for (int v = 0; v < TECTAVIRIO_MOST_VERTICES; v++) {
             length += (size_t)sprintf(text + length, VERTEX);
         }
@@ -159,7 +159,7 @@ static void take_refusals(void) {
         }
     }
     length += (size_t)sprintf(text + length, "00\n");
-    expect("the longest text's bytes", length, 3931);
+    expect("the longest text's bytes", length, 3963);
     expect("its check", tectavirio_text_check((const uint8_t *)text, length), 0);
     text[length] = '\n';
     uint32_t checked = tectavirio_text_check((const uint8_t *)text, length + 1);

@@ -1,4 +1,4 @@
-//! Every number of document 01, by a name in its words.
+//! Every number of document 01 and of wish 3, by a name in their words.
 
 use std::ops::RangeInclusive;
 
@@ -10,6 +10,8 @@ pub const HIGHER_TASKS: usize = TASKS - 1;
 pub const VERTICES: RangeInclusive<u8> = 1..=12;
 /// How many edges a task has.
 pub const EDGES: RangeInclusive<u8> = 0..=32;
+/// The masked length m that a masked task's frame has, in ticks; any other task's is 0.
+pub const M: RangeInclusive<u16> = 1..=1_000;
 /// A vertex's execution time e, in ticks.
 pub const E: RangeInclusive<u16> = 1..=1_000;
 /// A vertex's deadline d, in ticks.
@@ -21,8 +23,10 @@ pub const PATHS: usize = 64;
 /// The most work cells that a vertex can need.
 pub const MOST_WORK_CELLS: usize = *D.end() as usize * HIGHER_TASKS * (2 * PATHS - 1);
 
-/// The first byte of a task frame.
+/// The first byte of a task frame without a masked length.
 pub const TASK_FRAME: u8 = 0x01;
+/// The first byte of a task frame with a masked length.
+pub const MASKED_TASK_FRAME: u8 = 0x04;
 /// The first byte of a vertex frame.
 pub const VERTEX_FRAME: u8 = 0x02;
 /// The first byte of an edge frame.

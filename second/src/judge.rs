@@ -141,7 +141,8 @@ pub(crate) fn judge_vertex(
 
 /// A vertex that is judged, with the complete paths of each higher task.
 pub(crate) struct Judged {
-    e: Ticks,
+    /// What the overload rule takes for e: the vertex's own, and the masked time that can hold it up.
+    e_plus_b: Ticks,
     d: Ticks,
     higher: Vec<Vec<Path>>,
 }
@@ -178,7 +179,7 @@ impl Judged {
             higher.push(paths);
         }
         Ok(Judged {
-            e: vertex.e,
+            e_plus_b: vertex.e + table.masked_time(task),
             d: vertex.d,
             higher,
         })
@@ -198,7 +199,7 @@ impl Judged {
     /// Walks the groups from this bar on, and leaves the needed work cells zero.
     pub(crate) fn walk(&self, bar: Ticks, budget: u32, work: &mut [u32]) -> Outcome {
         let needed = &mut work[..self.work_cells()];
-        let outcome = walk(self.e, self.d, &self.higher, bar, budget, needed);
+        let outcome = walk(self.e_plus_b, self.d, &self.higher, bar, budget, needed);
         needed.fill(0);
         outcome
     }

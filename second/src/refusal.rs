@@ -7,7 +7,7 @@ pub enum Row {
     Line = 1,
     /// A frame's kind isn't allowed here, or its length is wrong for its kind.
     Frame = 2,
-    /// A number outside its bounds, or an edge naming a vertex that the task hasn't.
+    /// A number outside its bounds, an edge naming a vertex that the task hasn't, or a masked length that exceeds its task's largest e.
     Number = 3,
     /// d of the starting vertex exceeds p.
     Deadline = 4,

@@ -24,6 +24,8 @@ pub struct Table {
 /// A task graph.
 #[derive(Clone, Debug, PartialEq, Eq)]
 pub struct Task {
+    /// The masked length: for so long the task can hold up every higher one; 0 if it masks nothing.
+    pub m: Ticks,
     /// The vertices, by vertex number.
     pub vertices: Vec<Vertex>,
 }
@@ -61,6 +63,12 @@ impl Table {
     pub fn vertex(&self, task: TaskNo, vertex: VertexNo) -> Option<&Vertex> {
         let task = self.tasks.get(usize::from(task.0))?;
         task.vertices.get(usize::from(vertex.0))
+    }
+
+    /// The masked time B that can hold up a task's vertices: the largest m among the lower tasks, 0 if there are none.
+    pub fn masked_time(&self, task: TaskNo) -> Ticks {
+        let lower = self.tasks.iter().skip(usize::from(task.0) + 1);
+        lower.map(|task| task.m).max().unwrap_or(Ticks(0))
     }
 
     /// The numbers of all vertices, in rising order of task and then vertex.

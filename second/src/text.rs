@@ -1,7 +1,7 @@
 //! Reading a text into a table, or into one of the refusals 1 to 7.
 
-use crate::bounds::{D, E, EDGES, P, TASKS, VERTICES};
-use crate::bounds::{EDGE_FRAME, END_FRAME, TASK_FRAME, VERTEX_FRAME};
+use crate::bounds::{D, E, EDGES, M, P, TASKS, VERTICES};
+use crate::bounds::{EDGE_FRAME, END_FRAME, MASKED_TASK_FRAME, TASK_FRAME, VERTEX_FRAME};
 use crate::refusal::{Refusal, Row};
 use crate::table::{Edge, Table, Task, Ticks, Vertex, VertexNo};
 
@@ -12,7 +12,15 @@ pub fn read(text: &[u8]) -> Result<Table, Refusal> {
     loop {
         match *lines.next_frame()? {
             [TASK_FRAME, vertices, edges] if tasks.len() < TASKS => {
-                tasks.push(read_task(&mut lines, vertices, edges)?);
+                tasks.push(read_task(&mut lines, vertices, edges, Ticks(0))?);
+            }
+            [MASKED_TASK_FRAME, vertices, edges, m_high, m_low] if tasks.len() < TASKS => {
+                let m = u16::from_be_bytes([m_high, m_low]);
+                if !M.contains(&m) {
+                    return Err(lines.refuse(Row::Number));
+                }
+                let m = Ticks(u32::from(m));
+                tasks.push(read_task(&mut lines, vertices, edges, m)?);
             }
             [END_FRAME] if !tasks.is_empty() => break,
             _ => return Err(lines.refuse(Row::Frame)),
@@ -22,16 +30,20 @@ pub fn read(text: &[u8]) -> Result<Table, Refusal> {
     Ok(Table { tasks })
 }
 
-/// Reads on after a task frame's bytes: the task's vertices, then its edges.
-fn read_task(lines: &mut Lines, vertices: u8, edges: u8) -> Result<Task, Refusal> {
+/// Reads on after a task frame's bytes: the task's vertices, which decide whether m is too large, then its edges.
+fn read_task(lines: &mut Lines, vertices: u8, edges: u8, m: Ticks) -> Result<Task, Refusal> {
     if !VERTICES.contains(&vertices) || !EDGES.contains(&edges) {
         return Err(lines.refuse(Row::Number));
     }
     let mut task = Task {
+        m,
         vertices: Vec::with_capacity(usize::from(vertices)),
     };
     for _ in 0..vertices {
         task.vertices.push(read_vertex(lines)?);
+    }
+    if task.vertices.iter().all(|vertex| vertex.e < m) {
+        return Err(lines.refuse(Row::Number));
     }
     let mut before = None;
     for _ in 0..edges {

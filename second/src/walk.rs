@@ -36,7 +36,7 @@ pub fn stretch_cells(paths: usize, d: Ticks) -> usize {
 ///
 /// A group that finishes no later than the bar is passed over; a single choice that finishes later raises the bar to its finish. With the bar at d from the start, only overloading groups are not passed over; with the bar at 0, it is the latest finish of any single choice examined so far.
 pub fn walk(
-    e: Ticks,
+    e_plus_b: Ticks,
     d: Ticks,
     higher: &[Vec<Path>],
     bar: Ticks,
@@ -49,7 +49,7 @@ pub fn walk(
         fill(stretch, paths, d);
         stretches = rest;
     }
-    Walk::from_top(e, d, higher, bar, work).run(budget)
+    Walk::from_top(e_plus_b, d, higher, bar, work).run(budget)
 }
 
 /// Fills a stretch for a range: first the range's own row, then the stretches of its two parts.
@@ -114,7 +114,7 @@ const NOT_USED: Range = Range {
 
 /// A walk under way.
 struct Walk<'a> {
-    e: Ticks,
+    e_plus_b: Ticks,
     d: Ticks,
     /// How many higher tasks there are.
     higher: usize,
@@ -130,7 +130,13 @@ struct Walk<'a> {
 
 impl<'a> Walk<'a> {
     /// A walk that has only the top group to examine yet.
-    fn from_top(e: Ticks, d: Ticks, higher: &[Vec<Path>], bar: Ticks, work: &'a [u32]) -> Walk<'a> {
+    fn from_top(
+        e_plus_b: Ticks,
+        d: Ticks,
+        higher: &[Vec<Path>],
+        bar: Ticks,
+        work: &'a [u32],
+    ) -> Walk<'a> {
         let mut top = [NOT_USED; HIGHER_TASKS];
         let mut row = 0;
         let mut splits = 0;
@@ -145,7 +151,7 @@ impl<'a> Walk<'a> {
         let mut waiting = Vec::with_capacity(1 + splits);
         waiting.push(top);
         Walk {
-            e,
+            e_plus_b,
             d,
             higher: higher.len(),
             work,
@@ -194,13 +200,13 @@ impl<'a> Walk<'a> {
         self.waiting.push(group);
     }
 
-    /// The first t from 1 to d at which e and the ranges' loads are at most t; one past d if the group overloads.
+    /// The first t from 1 to d at which e + B and the ranges' loads are at most t; one past d if the group overloads.
     fn finish(&self, group: &Group) -> Ticks {
         let ranges = &group[..self.higher];
         let free = (1..=self.d.0).find(|&t| {
             let cell = t as usize - 1;
             let loads: u32 = ranges.iter().map(|range| self.work[range.row + cell]).sum();
-            self.e.0 + loads <= t
+            self.e_plus_b.0 + loads <= t
         });
         Ticks(free.unwrap_or(self.d.0 + 1))
     }

@@ -10,6 +10,9 @@ use crate::table::{Table, Task, TaskNo, Ticks, Vertex};
 /// How many bytes of a faulty line are shown, at most.
 const SHOWN_BYTES: usize = 60;
 
+/// What is said in the place of the releases where there is no higher task.
+const NOTHING_ABOVE: &str = ", with nothing above it";
+
 /// The last line where no table was read.
 const UNREAD: &str = "This may NOT go out: the table can't be read, so nothing was judged.\n";
 
@@ -52,7 +55,7 @@ fn refused(refusal: &Refusal) -> String {
             at_line("this kind of frame isn't allowed here, or its length is wrong for its kind")
         }
         Row::Number => at_line(
-            "a number is outside its bounds, or an edge names a vertex that the task hasn't",
+            "a number is outside its bounds, an edge names a vertex that the task hasn't, or the task's masked length exceeds its largest e",
         ),
         Row::Deadline => {
             at_line("the deadline of the edge's starting vertex exceeds the separation")
@@ -115,10 +118,11 @@ fn table_words(table: &Table, why: bool) -> String {
                     (true, Lateness::Meets { .. }) => cause_words(table, task, &witness),
                     _ => "\n".into(),
                 };
-                meets_line(vertex, count, &lateness) + &cause
+                let masked = masked_words(table, task);
+                meets_line(vertex, count, &lateness, &masked) + &cause
             }
             Verdict::Misses { count, .. } => {
-                misses_line(task, vertex, count) + &miss_words(table, task, vertex, &witness)
+                misses_line(table, task, vertex, count) + &miss_words(table, task, vertex, &witness)
             }
             Verdict::Unfinished { budget } => unfinished_line(budget),
             Verdict::Refused(refusal) => refused(&refusal) + ", so this was not judged\n",
@@ -127,13 +131,13 @@ fn table_words(table: &Table, why: bool) -> String {
     words + &counts_words(&counts)
 }
 
-/// The line of a vertex that meets, up to where the cause may follow: the groups of its verdict, and its worst finish unless the search for that was cut short.
-fn meets_line(vertex: &Vertex, count: u32, lateness: &Lateness) -> String {
+/// The line of a vertex that meets, up to where the cause may follow: the groups of its verdict, and its worst finish, with the words on masked time, unless the search for that was cut short.
+fn meets_line(vertex: &Vertex, count: u32, lateness: &Lateness, masked: &str) -> String {
     let (d, groups) = (ticks(vertex.d.0), number_of(count, "group"));
     match lateness {
         Lateness::Meets { finish, .. } => {
             let (finish, spare) = (finish.0, vertex.d.0 - finish.0);
-            format!("meets its deadline of {d}, at worst after {finish}, {spare} to spare ({groups} examined)")
+            format!("meets its deadline of {d}, at worst after {finish}{masked}, {spare} to spare ({groups} examined)")
         }
         _ => format!("meets its deadline of {d} ({groups} examined; its worst finish wasn't found within {BUDGET} groups)"),
     }
@@ -142,7 +146,7 @@ fn meets_line(vertex: &Vertex, count: u32, lateness: &Lateness) -> String {
 /// What makes a vertex so late, behind its line: the releases in the witness area, if there are higher tasks.
 fn cause_words(table: &Table, task: TaskNo, witness: &[u16]) -> String {
     match task {
-        TaskNo(0) => ", with nothing above it\n".into(),
+        TaskNo(0) => format!("{NOTHING_ABOVE}\n"),
         _ => {
             let lines = witnessed(table, task, witness)
                 .map(|(number, higher, path)| release_line(number, higher, path));
@@ -152,10 +156,11 @@ fn cause_words(table: &Table, task: TaskNo, witness: &[u16]) -> String {
 }
 
 /// The line of a vertex that misses.
-fn misses_line(task: TaskNo, vertex: &Vertex, count: u32) -> String {
+fn misses_line(table: &Table, task: TaskNo, vertex: &Vertex, count: u32) -> String {
     let (d, groups) = (ticks(vertex.d.0), number_of(count, "group"));
-    let cause = match task {
-        TaskNo(0) => " with no other task's help",
+    let cause = match (task, table.masked_time(task)) {
+        (TaskNo(0), Ticks(0)) => " with no other task's help",
+        (TaskNo(0), _) => NOTHING_ABOVE,
         _ => ", shown by these releases",
     };
     format!("MISSES its deadline of {d} ({groups} examined){cause}:\n")
@@ -167,10 +172,10 @@ fn unfinished_line(budget: u32) -> String {
     format!("UNFINISHED: the search was cut short after {groups}; this is neither a yes nor a no\n")
 }
 
-/// The lines below a miss: the releases in the witness area, and the work that is due by the deadline.
+/// The lines below a miss: the releases in the witness area, and the work that is due by the deadline, masked time among it.
 fn miss_words(table: &Table, task: TaskNo, vertex: &Vertex, witness: &[u16]) -> String {
     let mut words = String::new();
-    let mut due = vertex.e;
+    let mut due = vertex.e + table.masked_time(task);
     for (number, higher, path) in witnessed(table, task, witness) {
         words += &release_line(number, higher, path);
         // The whole path is released before the deadline, so its load there is all of it.
@@ -179,11 +184,25 @@ fn miss_words(table: &Table, task: TaskNo, vertex: &Vertex, witness: &[u16]) -> 
         }
     }
     let (due, own, d) = (due.0, vertex.e.0, vertex.d.0);
-    let (all, over) = (ticks(due), ticks(due - d));
+    let (all, masked, over) = (ticks(due), masked_words(table, task), ticks(due - d));
     words
         + &format!(
-            "    {all} of work are due by the deadline, {own} of them its own: {over} too many\n"
+            "    {all} of work{masked} are due by the deadline, {own} of them its own: {over} too many\n"
         )
+}
+
+/// How much of a vertex's time is masked time, and the first task that has so much of it, in brackets; nothing if none is.
+fn masked_words(table: &Table, task: TaskNo) -> String {
+    let b = table.masked_time(task);
+    let tasks = table.tasks.iter().enumerate();
+    let mut lower = tasks.skip(usize::from(task.0) + 1);
+    match lower.find(|(_, lower)| lower.m == b) {
+        Some((number, _)) if b > Ticks(0) => {
+            let verb = if b == Ticks(1) { "is" } else { "are" };
+            format!(" ({} of it {verb} task {number}'s masked time)", ticks(b.0))
+        }
+        _ => String::new(),
+    }
 }
 
 /// The paths in the witness area: each higher task's number, the task, and its path.

@@ -1,4 +1,4 @@
-//! The bench examples R1 to R11 of document 01, and a few tables worked out by hand.
+//! The bench examples R1 to R11 of document 01, R2 with a masked length, and a few tables worked out by hand.
 
 use crate::common::{self, *};
 use second::desk;
@@ -36,6 +36,36 @@ fn r1_whole_input_to_whole_output() {
 #[test]
 fn r2_an_earlier_tick_is_the_free_one() {
     assert_eq!(judged(&text(&r1(1)), (2, 0), 100, PLENTY), meets(1));
+}
+
+/// A task that masks 1 tick: one vertex e 1 d 100, no edges.
+fn masking() -> Task {
+    masked(1, task(&[(1, 100)], &[]))
+}
+
+#[test]
+fn r2_misses_above_a_masked_length() {
+    let above = |fourth: Task| text(&[r1(1), vec![fourth]].concat());
+    // Tick 5: 1 + 1 + 2 + 2, and tick 6: 1 + 1 + 4 + 2.
+    let misses = Verdict::Misses { count: 1, cells: 5 };
+    assert_eq!(judged(&above(masking()), (2, 0), 100, PLENTY), misses);
+    // The others meet: 2 + 1, 2 + 1 + 2, and the last, which nothing holds up, at tick 13: 1 + 6 + 4 + 2.
+    let output = "1000000000000001\n1001000000000001\n1002000100000001\n\
+                  1100020000\n11010100\n1003000000000001\n1f03010000\n";
+    assert_eq!(desk::output(above(masking()).as_bytes()), output);
+    let plain = above(masked(0, masking()));
+    assert_eq!(judged(&plain, (2, 0), 100, PLENTY), meets(1));
+}
+
+#[test]
+fn r2_below_a_masked_length() {
+    let below = |first: Task| text(&[vec![first], r1(1)].concat());
+    // By its e alone: R2's vertex has 1 + 1 + 2 + 2 at tick 5, and 1 + 1 + 4 + 2 at tick 6.
+    let output = "1000000000000001\n1001000000000001\n1002000000000001\n1003000100000001\n\
+                  11000100\n1101020000\n11020100\n1f03010000\n";
+    for first in [masking(), masked(0, masking())] {
+        assert_eq!(desk::output(below(first).as_bytes()), output);
+    }
 }
 
 #[test]

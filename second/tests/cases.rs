@@ -88,12 +88,41 @@ fn bench() -> Vec<String> {
     lines
 }
 
+/// The lines of the tables with masked lengths, which come next.
+fn masked() -> Vec<String> {
+    let above = [1, 0, 2, 0, 0, 1, 0];
+    let mut lines = vec![
+        // R2 above a masked tick and without it, then below one and without it.
+        misses(1, 12, &[2, 0, 0, 1, 0]),
+        meets(1, 12),
+        misses(1, 18, &above),
+        misses(1, 18, &above),
+        // Nothing above: 1 + 2, 3 + 2 and 4 + 2 by tick 5; 1,000 + 1,000 by tick 200.
+        meets(1, 0),
+        meets(1, 0),
+        misses(1, 0, &[]),
+        misses(1, 0, &[]),
+    ];
+    // Eight tasks of one path, each of which masks all its e: at most 21 by tick 50.
+    lines.extend((0..8).map(|higher| meets(1, 50 * higher)));
+    // R5 and R6 with one of the judged 2 ticks masked.
+    lines.extend([unfinished(0, 15), meets(1, 15)]);
+    lines.extend([unfinished(2, 12), misses(3, 12, &[1, 1])]);
+    // All paths together have 5 from tick 5 on: free at tick 2 + 5 and 4 + 5, and with 5 + 5 not by tick 9, nor is (1,2).
+    lines.extend([unfinished(0, 45), meets(1, 45)]);
+    lines.extend([unfinished(0, 45), meets(1, 45)]);
+    lines.extend([unfinished(3, 45), misses(4, 45, &[2, 1, 2])]);
+    // Every group: 2 x 3 x 2^4 - 1.
+    lines.extend([unfinished(94, 170), meets(95, 170)]);
+    lines
+}
+
 #[test]
-fn the_bench_by_the_documents_numbers() {
+fn the_bench_and_masked_lengths_by_the_documents_numbers() {
     let found = answered_lines(&sequence());
     let lines: Vec<_> = found.split_inclusive('\n').collect();
-    let bench = bench();
-    assert_eq!(lines[..bench.len()], bench);
+    let expected = [bench(), masked()].concat();
+    assert_eq!(lines[..expected.len()], expected);
 }
 
 /// A whole table's line: its four counts and the zeroed work cells; all else is unchanged.
@@ -124,6 +153,9 @@ fn the_whole_table_by_the_documents_numbers() {
     ];
     let last = bench().len();
     assert_eq!(lines[last - 3..last], refused);
+    // R2 above a masked tick and without it; the last vertex needs 300 cells and has 40.
+    assert_eq!(lines[last], counted([2, 1, 0, 1], 12));
+    assert_eq!(lines[last + 1], counted([3, 0, 0, 1], 12));
 }
 
 #[test]

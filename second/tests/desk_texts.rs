@@ -96,6 +96,11 @@ fn the_bench_comes_first() {
         (frames(13), frames(14), frames(15)),
         ("1e060001".into(), "1e020001".into(), "1e010001".into())
     );
+    // R2 above a masked tick and without it, then below one and without it.
+    assert!(frames(16).contains("100200010000000111000200001101010010030000"));
+    assert!(frames(16).ends_with("1f03010000") && frames(17).ends_with("1f04000000"));
+    assert_eq!((last(18), last(19)), ("11020100", "11020100"));
+    assert_eq!(answers[18], answers[19]);
 }
 
 #[test]

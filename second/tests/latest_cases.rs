@@ -80,12 +80,47 @@ fn bench() -> Vec<String> {
     lines
 }
 
+/// The lines of the tables with masked lengths, which come next; `tests/cases.rs` says what they are.
+fn masked() -> Vec<String> {
+    let (r2, above) = ([2, 0, 0, 1, 0], [1, 0, 2, 0, 0, 1, 0]);
+    let mut lines = vec![
+        // R2
+        misses(1, 12, &r2),
+        meets(5, 1, 12, &r2),
+        misses(1, 18, &above),
+        misses(1, 18, &above),
+        // Nothing above
+        meets(3, 1, 0, &[]),
+        meets(5, 1, 0, &[]),
+        misses(1, 0, &[]),
+        misses(1, 0, &[]),
+    ];
+    // e 4, 1, 3, 2, 2, 7, 1 and 1, and as much masked: the own e, those above, and the largest below.
+    let finishes = [11, 12, 15, 17, 19, 20, 21, 21];
+    let eight = (0..).zip(finishes);
+    lines.extend(eight.map(|(higher, finish)| {
+        let paths = [1, 0].repeat(higher);
+        meets(finish, 1, 50 * higher as u32, &paths)
+    }));
+    // R5, R6
+    lines.extend([unfinished(2, 15), meets(5, 3, 15, &[1, 1])]);
+    lines.extend([unfinished(2, 12), misses(3, 12, &[1, 1])]);
+    // (2) at tick 2 + 4, and (1,2) at 4 + 5; with 5 + 5 that is the witness.
+    lines.extend([unfinished(4, 45), meets(6, 5, 45, &[1, 2])]);
+    lines.extend([unfinished(4, 45), meets(9, 5, 45, &[2, 1, 2])]);
+    lines.extend([unfinished(3, 45), misses(4, 45, &[2, 1, 2])]);
+    // Every group: the last task's (0) at tick 2 + 4 + 3, (1,2) at 2 + 4 + 1, (2) at 2 + 4 + 4, and (0) with (1,2) not by tick 10.
+    let latest = [1, 0, 1, 0, 1, 0, 1, 0, 1, 2];
+    lines.extend([unfinished(94, 170), meets(10, 95, 170, &latest)]);
+    lines
+}
+
 #[test]
-fn the_bench_by_hand() {
+fn the_bench_and_masked_lengths_by_hand() {
     let found = answered_lines(&sequence());
     let lines: Vec<_> = found.split_inclusive('\n').collect();
-    let bench = bench();
-    assert_eq!(lines[..bench.len()], bench);
+    let expected = [bench(), masked()].concat();
+    assert_eq!(lines[..expected.len()], expected);
 }
 
 #[test]

@@ -1,6 +1,6 @@
-//! How late is the latest: random tables against the definitions tried out in full.
+//! How late is the latest: random tables, with masked lengths, against the definitions tried out in full.
 
-use crate::common::definitions::{complete_paths, count_paths, loads, Path};
+use crate::common::definitions::{complete_paths, count_paths, e_plus_b, loads, masked_time, Path};
 use crate::common::lateness::{assert_refused, latest_in, meets, misses, unfinished, Found};
 use crate::common::random::{table, Random, Size};
 use crate::common::*;
@@ -10,6 +10,9 @@ use second::table::{TaskNo, VertexNo};
 /// How often what matters was met, so that no check is empty by accident.
 #[derive(Debug, Default)]
 struct Seen {
+    tables: u32,
+    masked_tables: u32,
+    held_up: u32,
     meets: u32,
     misses: u32,
     nothing_above: u32,
@@ -49,14 +52,19 @@ fn check_tables(seed: u64, tables: u32, size: &Size) -> Seen {
     let mut seen = Seen::default();
     for _ in 0..tables {
         let tasks = table(&mut random, size);
+        seen.tables += 1;
+        seen.masked_tables += u32::from(tasks.iter().any(|task| task.m > 0));
         for number in 0..tasks.len() {
             for vertex in 0..tasks[number].vertices.len() {
                 if let Some(asked) = Asked::within(&tasks, number, vertex) {
                     asked.check(&mut seen);
+                    seen.held_up += u32::from(masked_time(&tasks, number) > 0);
                 }
             }
         }
     }
+    assert!(2 * seen.masked_tables >= seen.tables, "{seen:?}");
+    assert!(seen.held_up > 1_000, "{seen:?}");
     seen
 }
 
@@ -70,7 +78,7 @@ fn small_tables() {
 
 #[test]
 fn longer_tables() {
-    let seen = check_tables(12, 2_000, &LONGER);
+    let seen = check_tables(12, 2_500, &LONGER);
     assert!(seen.meets > 1_000 && seen.misses > 1_000, "{seen:?}");
     assert!(seen.groups_left_out > 500, "{seen:?}");
     assert!(
@@ -113,16 +121,16 @@ impl Group {
     }
 }
 
-/// The first t from 1 to d at which e plus the loads is at most t; d + 1 if there is none.
-fn finish(e: u32, d: u32, loads: impl Fn(u32) -> u32) -> u32 {
-    (1..=d).find(|&t| e + loads(t) <= t).unwrap_or(d + 1)
+/// The first t from 1 to d at which e + B plus the loads is at most t; d + 1 if there is none.
+fn finish(e_plus_b: u32, d: u32, loads: impl Fn(u32) -> u32) -> u32 {
+    (1..=d).find(|&t| e_plus_b + loads(t) <= t).unwrap_or(d + 1)
 }
 
 /// The loads at t = 1 to d of each path of each higher task.
 type Rows = Vec<Vec<Vec<u32>>>;
 
 /// All choices in path order, each with its finish.
-fn all_choices(e: u32, d: u32, rows: &Rows) -> Vec<(Vec<usize>, u32)> {
+fn all_choices(e_plus_b: u32, d: u32, rows: &Rows) -> Vec<(Vec<usize>, u32)> {
     let mut choices = vec![vec![]];
     for paths in rows {
         let longer = |choice: Vec<usize>| {
@@ -135,7 +143,7 @@ fn all_choices(e: u32, d: u32, rows: &Rows) -> Vec<(Vec<usize>, u32)> {
         paths.map(|(rows, &n)| rows[n][t as usize - 1]).sum::<u32>()
     };
     let with_finish = |choice: Vec<usize>| {
-        let finish = finish(e, d, |t| load(&choice, t));
+        let finish = finish(e_plus_b, d, |t| load(&choice, t));
         (choice, finish)
     };
     choices.into_iter().map(with_finish).collect()
@@ -168,7 +176,7 @@ fn add_groups(
 }
 
 /// All groups in the walk's order.
-fn all_groups(e: u32, d: u32, rows: &Rows) -> Vec<Group> {
+fn all_groups(e_plus_b: u32, d: u32, rows: &Rows) -> Vec<Group> {
     let largest = |paths: &[Vec<u32>], t: u32| -> u32 {
         let loads = paths.iter().map(|row| row[t as usize - 1]);
         loads.max().unwrap()
@@ -178,7 +186,7 @@ fn all_groups(e: u32, d: u32, rows: &Rows) -> Vec<Group> {
             let ranges = rows.iter().zip(ranges);
             ranges.map(|(rows, r)| largest(&rows[r.0..r.1], t)).sum()
         };
-        finish(e, d, load)
+        finish(e_plus_b, d, load)
     };
     let top = rows.iter().map(|paths| (0, paths.len())).collect();
     let mut groups = Vec::new();
@@ -189,7 +197,8 @@ fn all_groups(e: u32, d: u32, rows: &Rows) -> Vec<Group> {
 impl Asked<'_> {
     /// A vertex whose choices are few enough to be tried one by one, and that isn't refused by 9.
     fn within(tasks: &[Task], number: usize, vertex: usize) -> Option<Asked<'_>> {
-        let (e, d) = tasks[number].vertices[vertex];
+        let e_plus_b = e_plus_b(tasks, number, vertex);
+        let d = tasks[number].vertices[vertex].1;
         let higher = &tasks[..number];
         let counts: Vec<_> = higher.iter().map(|task| count_paths(task, d)).collect();
         if counts.iter().any(|&n| n > 64) || counts.iter().product::<u128>() > CHOICES {
@@ -208,8 +217,8 @@ impl Asked<'_> {
             numbers: (number as u16, vertex as u16),
             d,
             needed: (d_cells * ranges, number * (1 + d_cells)),
-            choices: all_choices(e, d, &rows),
-            groups: all_groups(e, d, &rows),
+            choices: all_choices(e_plus_b, d, &rows),
+            groups: all_groups(e_plus_b, d, &rows),
             lists,
         })
     }

@@ -41,6 +41,7 @@ fn bounds() {
         ("e, in ticks", (*E.start()).into(), (*E.end()).into()),
         ("d, in ticks", (*D.start()).into(), (*D.end()).into()),
         ("p, in ticks", (*P.start()).into(), (*P.end()).into()),
+        ("m, in ticks", (*M.start()).into(), (*M.end()).into()),
     ];
     let expected = expected.map(|(what, least, most)| [what.into(), grouped(least), grouped(most)]);
     assert_eq!(rows("The bounds"), expected);
@@ -53,7 +54,7 @@ fn bytes() {
     let edges: Vec<_> = (0..usize::from(*EDGES.end()))
         .map(|n| (n / 12, n % 12, 1))
         .collect();
-    let longest = task(&vec![(1, 1); (*VERTICES.end()).into()], &edges);
+    let longest = masked(1, task(&vec![(1, 1); (*VERTICES.end()).into()], &edges));
     let longest = text(&vec![longest; TASKS]).len();
     let said = format!(
         "`./judge` reads a file of at most {} bytes; the longest valid text has {}.",

@@ -1,6 +1,8 @@
 //! The program itself: its ways to run, and its exit statuses.
 
-use crate::common::{answered, answered_lines, r1, run, self_edge, sequence_of, task, text, with_length};
+use crate::common::{
+    answered, answered_lines, r1, run, self_edge, sequence_of, task, text, with_length,
+};
 use second::case::{CHECK, DESK, FINISHES, LIST, UNMARKED};
 
 /// R1's output.

@@ -1,12 +1,10 @@
-//! Random and damaged texts, each checked against document 01's definitions tried out in full.
+//! Random and damaged texts, each checked against the definitions of document 01 and wish 3 tried out in full.
 
 use crate::common::definitions::*;
 use crate::common::random::{damage, frames, noise, table, Random, Size};
 use crate::common::sheet::tasks_or_refusal;
-use crate::common::{text, witness_area, work_area, Task};
+use crate::common::{text, Task};
 use second::desk;
-use second::judge::{judge, judge_table, Counts, Verdict};
-use second::table::{TaskNo, VertexNo};
 
 /// Up to this many choices are tried one by one.
 const CHOICES: u128 = 3_000;
@@ -15,6 +13,11 @@ const CHOICES: u128 = 3_000;
 #[derive(Debug, Default)]
 struct Seen {
     refused_texts: [u32; 8],
+    m_out_of_bounds: u32,
+    m_too_large: u32,
+    tables: u32,
+    masked_tables: u32,
+    missed_by_b_alone: u32,
     meets: u32,
     misses: u32,
     refused_by_9: u32,
@@ -58,6 +61,7 @@ fn small_tables() {
         "{seen:?}"
     );
     assert!(seen.exact > 3_000 && seen.refused_by_9 > 5, "{seen:?}");
+    check_masked(&seen);
 }
 
 #[test]
@@ -73,6 +77,13 @@ fn large_tables() {
         seen.refused_by_9 > 10 && seen.refused_by_10 > 10,
         "{seen:?}"
     );
+    check_masked(&seen);
+}
+
+/// Checks that at least half of the tables had a masked length, and that it decided some verdicts.
+fn check_masked(seen: &Seen) {
+    assert!(2 * seen.masked_tables >= seen.tables, "{seen:?}");
+    assert!(seen.missed_by_b_alone > 100, "{seen:?}");
 }
 
 #[test]
@@ -91,29 +102,11 @@ fn damaged_texts() {
         check_desk(&noise(&mut random), &mut seen);
     }
     assert!(seen.refused_texts[1..].iter().all(|&n| n > 30), "{seen:?}");
+    assert!(
+        seen.m_out_of_bounds > 100 && seen.m_too_large > 100,
+        "{seen:?}"
+    );
     assert!(seen.meets > 100 && seen.misses > 100, "{seen:?}");
-}
-
-#[test]
-fn budgets_and_areas() {
-    let mut random = Random(4);
-    for _ in 0..600 {
-        let tasks = table(&mut random, &SMALL);
-        for number in 0..tasks.len() {
-            for vertex in 0..tasks[number].vertices.len() {
-                check_budgets(&tasks, number, vertex);
-            }
-        }
-    }
-}
-
-#[test]
-fn whole_tables() {
-    let mut random = Random(5);
-    for _ in 0..600 {
-        let tasks = table(&mut random, &SMALL);
-        check_table(&mut random, &tasks);
-    }
 }
 
 /// Checks the desk's output for any bytes.
@@ -123,8 +116,27 @@ fn check_desk(input: &[u8], seen: &mut Seen) {
         Err((number, line)) => {
             assert_eq!(output, format!("1e{number:02x}{line:04x}\n"));
             seen.refused_texts[usize::from(number)] += 1;
+            if number == 3 {
+                see_masked_length(input, line, seen);
+            }
         }
-        Ok(tasks) => check_frames(&tasks, &output, seen),
+        Ok(tasks) => {
+            seen.tables += 1;
+            seen.masked_tables += u32::from(tasks.iter().any(|task| task.m > 0));
+            check_frames(&tasks, &output, seen);
+        }
+    }
+}
+
+/// Counts a line that row 3 refuses for the masked length: in its own frame, or at a vertex whose own numbers are within their bounds.
+fn see_masked_length(input: &[u8], line: usize, seen: &mut Seen) {
+    let line = input.split(|&byte| byte == b'\n').nth(line - 1).unwrap();
+    let line = std::str::from_utf8(line).unwrap();
+    let number = |at| u32::from_str_radix(&line[at..at + 4], 16).unwrap();
+    seen.m_out_of_bounds += u32::from(line.starts_with("04") && !(1..=1_000).contains(&number(6)));
+    if line.starts_with("02") {
+        let own = (1..=1_000).contains(&number(2)) && (1..=200).contains(&number(6));
+        seen.m_too_large += u32::from(own);
     }
 }
 
@@ -156,10 +168,10 @@ fn check_frames(tasks: &[Task], output: &str, seen: &mut Seen) {
                 1 => frames.by_ref().take(number).collect(),
                 _ => Vec::new(),
             };
-            let (e, d) = tasks[number].vertices[vertex];
             let asked = Asked {
-                e,
-                d,
+                e_plus_b: e_plus_b(tasks, number, vertex),
+                b: masked_time(tasks, number),
+                d: tasks[number].vertices[vertex].1,
                 higher: &tasks[..number],
             };
             asked.check(frame[3], count, &paths, seen);
@@ -172,7 +184,8 @@ fn check_frames(tasks: &[Task], output: &str, seen: &mut Seen) {
 
 /// A vertex of which a verdict is checked.
 struct Asked<'a> {
-    e: u32,
+    e_plus_b: u32,
+    b: u32,
     d: u32,
     higher: &'a [Task],
 }
@@ -234,7 +247,7 @@ impl Asked<'_> {
         }
         assert_eq!(frames.len(), self.higher.len());
         let rows: Vec<&[u32]> = rows.iter().map(|row| &row[..]).collect();
-        assert!(overload(self.e, &rows, self.d));
+        assert!(overload(self.e_plus_b, &rows, self.d));
     }
 
     /// Checks verdict, witness and count by trying every choice and every group.
@@ -245,12 +258,14 @@ impl Asked<'_> {
             .map(|task| complete_paths(task, self.d))
             .collect();
         let rows = self.rows(&lists);
-        let least = least_overloading(self.e, self.d, &rows);
+        let least = least_overloading(self.e_plus_b, self.d, &rows);
         assert_eq!(least.is_some(), verdict == 1);
-        assert_eq!(groups_to_examine(self.e, self.d, &rows), count);
+        assert_eq!(groups_to_examine(self.e_plus_b, self.d, &rows), count);
         for (place, frame) in least.iter().flatten().enumerate().zip(frames) {
             assert_eq!(lists[place.0][*place.1], path_of(frame));
         }
+        let alone = least_overloading(self.e_plus_b - self.b, self.d, &rows);
+        seen.missed_by_b_alone += u32::from(least.is_some() && alone.is_none());
         seen.later_paths += u32::from(least.is_some_and(|places| places.iter().any(|&n| n > 0)));
         seen.exact += 1;
         self.check_all_paths(verdict);
@@ -269,7 +284,7 @@ impl Asked<'_> {
             .product::<u128>()
             <= CHOICES
         {
-            let least = least_overloading(self.e, self.d, &self.rows(&lists));
+            let least = least_overloading(self.e_plus_b, self.d, &self.rows(&lists));
             assert_eq!(least.is_some(), verdict == 1);
         }
     }
@@ -286,109 +301,4 @@ impl Asked<'_> {
 /// The vertices of a path frame.
 fn path_of(frame: &[u32]) -> Path {
     frame[3..].iter().map(|&vertex| vertex as usize).collect()
-}
-
-/// The cells that a vertex needs of both areas; none if refusal 9 holds.
-fn cells_needed(tasks: &[Task], number: usize, d: u32) -> Option<(usize, usize)> {
-    let mut rows = 0;
-    for task in &tasks[..number] {
-        let paths = count_paths(task, d);
-        if paths > 64 {
-            return None;
-        }
-        rows += 2 * paths as usize - 1;
-    }
-    Some((d as usize * rows, number * (1 + d as usize)))
-}
-
-/// Checks one vertex's verdict and areas with budgets around its count.
-fn check_budgets(tasks: &[Task], number: usize, vertex: usize) {
-    let d = tasks[number].vertices[vertex].1;
-    let Some((needed, witness_needed)) = cells_needed(tasks, number, d) else {
-        return;
-    };
-    let bytes = text(tasks).into_bytes();
-    let judged = |budget, more| {
-        let (mut work, mut witness) = (
-            work_area(needed + more),
-            witness_area(witness_needed + more),
-        );
-        let (task, vertex) = (TaskNo(number as u16), VertexNo(vertex as u16));
-        let verdict = judge(&bytes, task, vertex, budget, &mut work, &mut witness);
-        assert!(work[..needed].iter().all(|&cell| cell == 0));
-        assert_eq!(work[needed..], work_area(needed + more)[needed..]);
-        (verdict, witness)
-    };
-    let (whole, witness) = judged(u32::MAX, 0);
-    let (count, written) = match whole {
-        Verdict::Meets { count } => (count, 0),
-        Verdict::Misses { count, cells } => (count, cells),
-        other => panic!("{other:?}"),
-    };
-    assert_eq!(witness[written..], witness_area(witness_needed)[written..]);
-    for budget in [count, count + 1] {
-        let (verdict, more) = judged(budget, 3);
-        assert_eq!((verdict, &more[..written]), (whole, &witness[..written]));
-        assert_eq!(more[written..], witness_area(witness_needed + 3)[written..]);
-    }
-    for budget in [0, count / 2, count - 1] {
-        let unfinished = Verdict::Unfinished { budget };
-        let expected = (unfinished, witness_area(witness_needed));
-        assert_eq!(judged(budget, 0), expected);
-    }
-}
-
-/// Checks a whole table against its vertices, with a random work area and rising budgets.
-fn check_table(random: &mut Random, tasks: &[Task]) {
-    let bytes = text(tasks).into_bytes();
-    let cells = random.below(400);
-    let mut before = Counts::default();
-    for budget in [0, 1, 2, 5, 20, u32::MAX] {
-        let mut work = work_area(cells);
-        let counts = judge_table(&bytes, budget, &mut work).unwrap();
-        assert_eq!(counts, count_each(tasks, &bytes, budget, cells));
-        let mut expected = work_area(cells);
-        expected[..largest_need(tasks, cells)].fill(0);
-        assert_eq!(work, expected);
-        assert!(counts.meets >= before.meets && counts.misses >= before.misses);
-        before = counts;
-    }
-    assert_eq!(before.unfinished, 0);
-}
-
-/// The counts of a table from judging each vertex by itself.
-fn count_each(tasks: &[Task], bytes: &[u8], budget: u32, cells: usize) -> Counts {
-    let mut counts = Counts::default();
-    let mut vertices = 0;
-    for (number, task) in (0..).zip(tasks) {
-        for vertex in 0..task.vertices.len() as u16 {
-            let (mut work, mut witness) = (work_area(cells), witness_area(1_407));
-            let (task, vertex) = (TaskNo(number), VertexNo(vertex));
-            match judge(bytes, task, vertex, budget, &mut work, &mut witness) {
-                Verdict::Meets { .. } => counts.meets += 1,
-                Verdict::Misses { .. } => counts.misses += 1,
-                Verdict::Unfinished { .. } => counts.unfinished += 1,
-                Verdict::Refused(_) => counts.refused += 1,
-            }
-            vertices += 1;
-        }
-    }
-    let sum = counts.meets + counts.misses + counts.unfinished + counts.refused;
-    assert_eq!(sum, vertices);
-    counts
-}
-
-/// The largest need of work cells among the vertices that are not refused.
-fn largest_need(tasks: &[Task], cells: usize) -> usize {
-    let vertices = tasks.iter().enumerate().flat_map(|(number, task)| {
-        let needs = task
-            .vertices
-            .iter()
-            .map(move |&(_, d)| cells_needed(tasks, number, d));
-        needs.flatten().map(|needed| needed.0)
-    });
-    vertices
-        .filter(|&needed| needed <= cells)
-        .max()
-        .unwrap_or(0)
 }

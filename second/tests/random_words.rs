@@ -1,7 +1,8 @@
-//! The words of random tables against the desk's frames, their numbers worked out by the definitions of document 01 and wish 1.
+//! The words of random tables against the desk's frames, their numbers worked out by the definitions of document 01 and wishes 1 and 3.
 
 use crate::common::definitions::{
-    complete_paths, count_paths, first_latest, load, loads, spans, worst_finish,
+    complete_paths, count_paths, e_plus_b, first_latest, load, loads, masked_time, spans,
+    worst_finish,
 };
 use crate::common::random::{table, Random, Size};
 use crate::common::{text, Task};
@@ -22,20 +23,29 @@ const SIZE: Size = Size {
 fn words_say_what_the_frames_say() {
     let mut random = Random(6);
     let mut said = String::new();
+    let mut masked_tables = 0;
     for _ in 0..1_000 {
         let tasks = table(&mut random, &SIZE);
+        masked_tables += u32::from(tasks.iter().any(|task| task.m > 0));
         let found = words(text(&tasks).as_bytes());
         assert_eq!(found, expected(&tasks, false));
         let found = words_with_why(text(&tasks).as_bytes());
         assert_eq!(found, expected(&tasks, true));
         said += &found;
     }
+    assert!(masked_tables >= 500);
     let often = |part: &str| assert!(said.matches(part).count() > 100, "{part}");
     often(", at worst after ");
     often("examined), with nothing above it");
     often("examined), by these releases:\n    task 0: vertex 1 ");
     often("examined), shown by");
     often("help:");
+    often("examined), with nothing above it:");
+    often(" (1 tick of it is task 1's masked time), ");
+    often(" (1 tick of it is task 1's masked time) are due ");
+    often(" ticks of it are task 2's masked time), ");
+    often(" ticks of it are task 2's masked time) are due ");
+    often(" ticks of work are due ");
     often("REFUSED (9): task 0");
     often("REFUSED (9): task 1");
     often("REFUSED (10): ");
@@ -70,23 +80,29 @@ fn numbers(line: &str) -> Vec<usize> {
 /// The words for a vertex's frame and, after a miss, the frames of the paths.
 fn vertex_words(tasks: &[Task], frame: &[usize], paths: &[Vec<usize>], why: bool) -> String {
     let (number, vertex) = (frame[1], frame[2]);
-    let (e, d) = tasks[number].vertices[vertex];
+    let (own, d) = tasks[number].vertices[vertex];
+    let e_plus_b = e_plus_b(tasks, number, vertex);
+    let masked = masked_words(tasks, number);
     let count = frame[4..].iter().fold(0, |n, byte| n * 256 + byte);
     let start = format!("task {number}, vertex {vertex}: ");
     let (ticks, groups) = (plural(d, "tick"), plural(count as u32, "group"));
     let deadline = format!("its deadline of {ticks} ({groups} examined)");
     let higher = &tasks[..number];
     match (frame[3], count, number) {
-        (0, ..) => start + &meets_words(higher, (e, d), &groups, why),
+        (0, ..) => start + &meets_words(higher, (e_plus_b, d), &masked, &groups, why),
         (1, _, 0) => {
-            let due = due_words(e, e, d);
-            format!("{start}MISSES {deadline} with no other task's help:\n{due}")
+            let due = due_words(e_plus_b, &masked, own, d);
+            let cause = match e_plus_b == own {
+                true => " with no other task's help",
+                false => ", with nothing above it",
+            };
+            format!("{start}MISSES {deadline}{cause}:\n{due}")
         }
         (1, ..) => {
-            let path_words = |frame: &Vec<usize>| path_words(higher, frame[1], &frame[3..]);
-            let releases: String = paths.iter().map(path_words).collect();
+            let releases = paths_words(higher, paths);
             let load = |path: &Vec<usize>| load(&tasks[path[1]], &path[3..], d);
-            let due = due_words(e + paths.iter().map(load).sum::<u32>(), e, d);
+            let loads = paths.iter().map(load).sum::<u32>();
+            let due = due_words(e_plus_b + loads, &masked, own, d);
             format!("{start}MISSES {deadline}, shown by these releases:\n{releases}{due}")
         }
         (3, 9, _) => {
@@ -103,21 +119,39 @@ fn vertex_words(tasks: &[Task], frame: &[usize], paths: &[Vec<usize>], why: bool
     }
 }
 
-/// The words for a vertex that meets, behind its numbers.
-fn meets_words(higher: &[Task], vertex: (u32, u32), groups: &str, why: bool) -> String {
-    let (e, d) = vertex;
-    let worst = worst_finish(e, d, &rows(higher, d)).unwrap();
+/// How much masked time holds a task up, and the lowest-numbered task that masks so long, in brackets; nothing if none does.
+fn masked_words(tasks: &[Task], number: usize) -> String {
+    let b = masked_time(tasks, number);
+    let lower = number + 1..tasks.len();
+    let longest: Vec<_> = lower.filter(|&lower| tasks[lower].m == b).collect();
+    match (b, longest.first()) {
+        (0, _) | (_, None) => String::new(),
+        (1, Some(first)) => format!(" (1 tick of it is task {first}'s masked time)"),
+        (_, Some(first)) => format!(" ({b} ticks of it are task {first}'s masked time)"),
+    }
+}
+
+/// The words for a vertex (e + B, d) that meets, behind its numbers.
+fn meets_words(
+    higher: &[Task],
+    vertex: (u32, u32),
+    masked: &str,
+    groups: &str,
+    why: bool,
+) -> String {
+    let (e_plus_b, d) = vertex;
+    let worst = worst_finish(e_plus_b, d, &rows(higher, d)).unwrap();
     let (ticks, spare) = (plural(d, "tick"), d - worst);
     let cause = match why {
-        true => cause_words(higher, e, d),
+        true => cause_words(higher, e_plus_b, d),
         false => "\n".into(),
     };
-    format!("meets its deadline of {ticks}, at worst after {worst}, {spare} to spare ({groups} examined){cause}")
+    format!("meets its deadline of {ticks}, at worst after {worst}{masked}, {spare} to spare ({groups} examined){cause}")
 }
 
 /// What makes a vertex that meets so late, behind its line.
-fn cause_words(higher: &[Task], e: u32, d: u32) -> String {
-    let choice = first_latest(e, d, &rows(higher, d)).unwrap();
+fn cause_words(higher: &[Task], e_plus_b: u32, d: u32) -> String {
+    let choice = first_latest(e_plus_b, d, &rows(higher, d)).unwrap();
     if choice.is_empty() {
         return ", with nothing above it\n".into();
     }
@@ -135,6 +169,12 @@ fn rows(higher: &[Task], d: u32) -> Vec<Vec<Vec<u32>>> {
     higher.iter().map(rows).collect()
 }
 
+/// The lines of the paths of a miss, from their frames.
+fn paths_words(higher: &[Task], paths: &[Vec<usize>]) -> String {
+    let line = |frame: &Vec<usize>| path_words(higher, frame[1], &frame[3..]);
+    paths.iter().map(line).collect()
+}
+
 /// The line of a task's path.
 fn path_words(higher: &[Task], task: usize, path: &[usize]) -> String {
     let spans = spans(&higher[task], path).unwrap();
@@ -144,10 +184,10 @@ fn path_words(higher: &[Task], task: usize, path: &[usize]) -> String {
 }
 
 /// The line of the work that is due by the deadline.
-fn due_words(due: u32, own: u32, d: u32) -> String {
+fn due_words(due: u32, masked: &str, own: u32, d: u32) -> String {
     let over = plural(due - d, "tick");
     format!(
-        "    {due} ticks of work are due by the deadline, {own} of them its own: {over} too many\n"
+        "    {due} ticks of work{masked} are due by the deadline, {own} of them its own: {over} too many\n"
     )
 }
 

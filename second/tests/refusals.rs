@@ -1,40 +1,9 @@
 //! The refusal sheet: every row with its place, at each bound and one past it.
 
-use crate::common::{self, *};
+use crate::common::refused::{check, check_lines, check_tasks};
+use crate::common::*;
 use second::desk;
-use second::judge::{judge, judge_table};
-use second::table::{TaskNo, VertexNo};
 use second::text;
-
-/// The refusal number and line of a text, alike from every call; (0, 0) for a readable text.
-fn check(text: &[u8]) -> (u8, usize) {
-    let mut work = work_area(50);
-    let mut witness = witness_area(50);
-    let Err(refusal) = text::read(text) else {
-        assert!(judge_table(text, 0, &mut []).is_ok());
-        return (0, 0);
-    };
-    assert_eq!(judge_table(text, 9, &mut work), Err(refusal));
-    let verdict = judge(text, TaskNo(0), VertexNo(0), 9, &mut work, &mut witness);
-    let found = (refusal.number(), refusal.place);
-    assert_eq!(common::refusal(verdict), Some(found));
-    assert_eq!((work, witness), (work_area(50), witness_area(50)));
-    if text.len() <= 8_191 {
-        let output = format!("1e{:02x}{:04x}\n", found.0, found.1);
-        assert_eq!(desk::output(text), output);
-    }
-    found
-}
-
-/// The check of a text put together from its lines.
-fn check_lines(lines: &[&str]) -> (u8, usize) {
-    check(lines.concat().as_bytes())
-}
-
-/// The check of a table.
-fn check_tasks(tasks: &[Task]) -> (u8, usize) {
-    check(text(tasks).as_bytes())
-}
 
 /// The lines of a small valid text: two vertices, two edges.
 const LINES: [&str; 6] = [
@@ -110,18 +79,27 @@ fn row_1_comes_before_row_2() {
 #[test]
 fn row_2_kinds_not_allowed_here() {
     for line in 1..=6 {
-        let allowed = ["01", "02", "02", "03", "03", "00"][line - 1];
-        let frames = ["00\n", "010101\n", "0200010005\n", "0300000006\n"];
-        for frame in frames {
+        let allowed: &[&str] = match line {
+            1 => &["01", "04"],
+            2 | 3 => &["02"],
+            4 | 5 => &["03"],
             // A task may begin where the end may stand.
-            let allowed = frame.starts_with(allowed) || (line == 6 && frame == "010101\n");
-            if !allowed {
+            _ => &["00", "01", "04"],
+        };
+        for frame in [
+            "00\n",
+            "010101\n",
+            "0200010005\n",
+            "0300000006\n",
+            "0401010001\n",
+        ] {
+            if !allowed.contains(&&frame[..2]) {
                 assert_eq!(check_with(line, frame), (2, line), "{frame:?}");
             }
         }
         for frame in [
-            "04\n",
-            "0400010005\n",
+            "05\n",
+            "0500010005\n",
             "08\n",
             "10\n",
             "1f00000000\n",
@@ -138,6 +116,10 @@ fn row_2_wrong_lengths() {
         (1, "01\n"),
         (1, "0102\n"),
         (1, "01020200\n"),
+        (1, "04\n"),
+        (1, "040202\n"),
+        (1, "04020201\n"),
+        (1, "040202000100\n"),
         (2, "02\n"),
         (2, "02000200\n"),
         (2, "020002000500\n"),
@@ -156,18 +138,30 @@ fn row_2_wrong_lengths() {
 #[test]
 fn row_2_comes_before_row_3() {
     assert_eq!(check_with(1, "01000000\n"), (2, 1));
+    assert_eq!(check_with(1, "04000000\n"), (2, 1));
+    assert_eq!(check_with(1, "040000000000\n"), (2, 1));
     assert_eq!(check_with(2, "02000000\n"), (2, 2));
 }
 
 #[test]
 fn row_2_the_ninth_task() {
-    let eight = vec![task(&[(1, 1)], &[]); 8];
-    assert_eq!(check_tasks(&eight), (0, 0));
-    for ninth in ["010100\n", "01\n", "010000\n", "01ffff\n"] {
-        let nine = open_text(&eight) + ninth;
-        assert_eq!(check(nine.as_bytes()), (2, 17), "{ninth:?}");
+    let plain = task(&[(1, 1)], &[]);
+    let eight_of = |one: &Task| vec![one.clone(); 8];
+    for eight in [eight_of(&plain), eight_of(&masked(1, plain.clone()))] {
+        assert_eq!(check_tasks(&eight), (0, 0));
+        for ninth in ["010100\n", "01\n", "010000\n", "01ffff\n"] {
+            let nine = open_text(&eight) + ninth;
+            assert_eq!(check(nine.as_bytes()), (2, 17), "{ninth:?}");
+        }
+        for ninth in ["0401000001\n", "04\n", "0400000000\n", "04ffffffff\n"] {
+            let nine = open_text(&eight) + ninth;
+            assert_eq!(check(nine.as_bytes()), (2, 17), "{ninth:?}");
+        }
+        for ninth in [&plain, &masked(1, plain.clone())] {
+            let nine = [&eight[..], std::slice::from_ref(ninth)].concat();
+            assert_eq!(check_tasks(&nine), (2, 17));
+        }
     }
-    assert_eq!(check_tasks(&vec![task(&[(1, 1)], &[]); 9]), (2, 17));
 }
 
 #[test]
@@ -324,14 +318,17 @@ fn row_7_bytes_after_the_end() {
 #[test]
 fn the_longest_valid_text() {
     let edges: Vec<_> = (0..32).map(|n| (n / 12, n % 12, 1_000)).collect();
-    let tasks = vec![task(&[(1_000, 200); 12], &edges); 8];
-    let mut longest = text(&tasks);
-    assert_eq!(longest.len(), 3_931);
-    assert_eq!(check(longest.as_bytes()), (0, 0));
-    let table = text::read(longest.as_bytes()).unwrap();
-    assert_eq!(table.numbers().count(), 96);
-    longest.push('\n');
-    assert_eq!(check(longest.as_bytes()), (7, 8 * 45 + 2));
+    // The largest task; without a masked length, its frame has two bytes less.
+    let largest = task(&[(1_000, 200); 12], &edges);
+    for (m, bytes) in [(1_000, 3_963), (1, 3_963), (0, 3_931)] {
+        let mut longest = text(&vec![masked(m, largest.clone()); 8]);
+        assert_eq!(longest.len(), bytes);
+        assert_eq!(check(longest.as_bytes()), (0, 0));
+        let table = text::read(longest.as_bytes()).unwrap();
+        assert_eq!(table.numbers().count(), 96);
+        longest.push('\n');
+        assert_eq!(check(longest.as_bytes()), (7, 8 * 45 + 2));
+    }
 }
 
 #[test]

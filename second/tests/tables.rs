@@ -15,7 +15,7 @@ fn table_words(table: &str) -> String {
 fn worst_finishes(words: &str) -> Vec<u32> {
     let behind = words.split(", at worst after ").skip(1);
     behind
-        .map(|rest| rest.split(',').next().unwrap().parse().unwrap())
+        .map(|rest| rest.split([',', ' ']).next().unwrap().parse().unwrap())
         .collect()
 }
 
@@ -30,6 +30,38 @@ fn cradle_meets() {
     assert_eq!(worst_finishes(&words), [1, 2, 4, 5, 6, 6, 10, 19]);
     let last = "\nmeets 8, misses 0, unfinished 0, refused 0\nThis may go out: every job type meets its deadline.\n";
     assert!(words.ends_with(last), "{words}");
+}
+
+#[test]
+fn cradle_display_masks() {
+    let table = include_str!("../../tables/cradle_display_masks.table");
+    let words = table_words(table);
+    let miss = "
+task 2, vertex 0: MISSES its deadline of 8 ticks (4 groups examined), shown by these releases:
+    task 0: vertex 1 at tick 0
+    task 1: vertex 0 at tick 0
+    9 ticks of work (4 ticks of it are task 3's masked time) are due by the deadline, 1 of them its own: 1 tick too many
+";
+    assert!(words.contains(miss), "{words}");
+    let finishes = [
+        2 + 4,
+        3 + 4,
+        1 + 4 + 3,
+        1 + 4 + 3,
+        2 + 4 + 1 + 5,
+        4 + 4 + 1 + 5,
+        16,
+        18,
+        9,
+    ];
+    assert_eq!(worst_finishes(&words), finishes);
+    // One tick less of masked time, and no masked time at all.
+    let yes = "\nThis may go out: every job type meets its deadline.\n";
+    let shorter = table.replace("0403040004", "0403040003");
+    assert!(table_words(&shorter).ends_with(yes));
+    assert!(table_words(&table.replace("0403040004", "010304")).ends_with(yes));
+    let sooner = include_str!("../../tables/cradle_display_sooner.table");
+    assert_eq!(table.replace("0403040004", "010304"), sooner);
 }
 
 #[test]

@@ -217,7 +217,7 @@ fn the_rules_of_a_refused_text() {
             "0300020005\n",
             3,
             4,
-            "a number is outside its bounds, or an edge names a vertex that the task hasn't",
+            "a number is outside its bounds, an edge names a vertex that the task hasn't, or the task's masked length exceeds its largest e",
             "0300020005",
         ),
         (
@@ -303,6 +303,45 @@ fn the_program_writes_an_empty_line_after_each_text() {
     assert_eq!(found, expected);
 }
 
+/// What is said of some text that the words are checked with.
+const SAID: [&str; 35] = [
+    "REFUSED (1) at",
+    "REFUSED (2) at",
+    "REFUSED (3) at",
+    "REFUSED (4) at",
+    "REFUSED (5) at",
+    "REFUSED (6) at",
+    "REFUSED (7) at",
+    "REFUSED (9): task 0",
+    "REFUSED (9): task 1",
+    "REFUSED (10): ",
+    "REFUSED (12): ",
+    "(an empty line)",
+    "(the text ends before this line)",
+    r"\x0d",
+    r"\x5c",
+    r"\xff",
+    "f...",
+    "0g",
+    ", at worst after ",
+    ", 0 to spare (",
+    "; its worst finish wasn't found within 100000 groups)",
+    "MISSES its deadline of 1 tick (",
+    "examined), shown by",
+    "help:",
+    "examined), with nothing above it:",
+    "after 3 (1 tick of it is task 3's masked time), 2 to spare",
+    "3 ticks of work (1 tick of it is task 1's masked time) are due",
+    "ticks of it are task 4's masked time), ",
+    "ticks of it are task 5's masked time), ",
+    "13 ticks of work (11 ticks of it are task 1's masked time) are due",
+    ": 1 tick too many",
+    "at tick 199",
+    "This may go out",
+    "not every job type was shown",
+    "a job type misses",
+];
+
 #[test]
 fn the_texts_that_the_words_are_checked_with() {
     let folder = concat!(env!("CARGO_TARGET_TMPDIR"), "/texts");
@@ -314,40 +353,10 @@ fn the_texts_that_the_words_are_checked_with() {
     let texts: Vec<_> = texts
         .map(|text| fs::read(text.unwrap().path()).unwrap())
         .collect();
-    assert!((60..=100).contains(&texts.len()));
+    assert!((60..=120).contains(&texts.len()));
     assert!(texts.contains(&text(&common::r1(2)).into_bytes()));
     let words: Vec<_> = texts.iter().map(|text| words(text)).collect();
-    for said in [
-        "REFUSED (1) at",
-        "REFUSED (2) at",
-        "REFUSED (3) at",
-        "REFUSED (4) at",
-        "REFUSED (5) at",
-        "REFUSED (6) at",
-        "REFUSED (7) at",
-        "REFUSED (9): task 0",
-        "REFUSED (9): task 1",
-        "REFUSED (10): ",
-        "REFUSED (12): ",
-        "(an empty line)",
-        "(the text ends before this line)",
-        r"\x0d",
-        r"\x5c",
-        r"\xff",
-        "f...",
-        "0g",
-        ", at worst after ",
-        ", 0 to spare (",
-        "; its worst finish wasn't found within 100000 groups)",
-        "MISSES its deadline of 1 tick (",
-        "examined), shown by",
-        "help:",
-        ": 1 tick too many",
-        "at tick 199",
-        "This may go out",
-        "not every job type was shown",
-        "a job type misses",
-    ] {
+    for said in SAID {
         assert!(words.iter().any(|words| words.contains(said)), "{said}");
     }
 }

@@ -1,4 +1,4 @@
-// The bounds that document 01 sets, once for the code, and what follows from them; `meaning`'s Bounds has them once for the definitions. The proofs
+// The bounds that document 01 and wish 3 set, once for the code, and what follows from them; `meaning`'s Bounds has them once for the definitions. The proofs
 // tie the two: an array or a test by another number meets no contract.
 
 // ---- a table
@@ -9,12 +9,14 @@ pub const MOST_VERTICES: usize = 12;
 
 pub const MOST_EDGES: usize = 32;
 
-// The largest e, d and p; the least of each is 1.
+// The largest e, d, p and m; the least of each is 1, and a task without a masked length has m = 0.
 pub const LARGEST_E: usize = 1000;
 
 pub const LARGEST_D: usize = 200;
 
 pub const LARGEST_P: usize = 1000;
+
+pub const LARGEST_M: usize = 1000;
 
 // ---- judging
 

@@ -79,16 +79,16 @@ pub fn columns_of(t: Task) -> Columns
     let mut to = [0u8; MOST_EDGES];
     let mut p = [0u16; MOST_EDGES];
     let mut k: usize = 0;
-    while k < t.ne {
+    while k < t.ne as usize {
         let x = edges[k];
         from[k] = x.from.0;
         to[k] = x.to.0;
         p[k] = x.p.0;
         k += 1;
     }
-    let start = edge_starts(&from, t.ne);
+    let start = edge_starts(&from, t.ne as usize);
     let vertices = t.vertices;
-    let e = executions(vertices, t.nv);
+    let e = executions(vertices, t.nv as usize);
     Columns {
         e: e,
         start: start,

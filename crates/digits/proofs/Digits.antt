@@ -25,6 +25,7 @@ foreign-above =
       e = omega arith;
       d = omega arith;
       p = omega arith;
+      m = omega arith;
       bits = omega arith;
     }
 

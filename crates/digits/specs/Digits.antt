@@ -6,7 +6,7 @@ use mathlib.Core.List.{List, [], _∷_}
 use lib.ListN.{length, getD}
 use lib.Dec.{leb, ltb, eqb}
 use Rattle.meaning.specs.Lists.{pick}
-use Rattle.meaning.specs.Bounds.{mostVertices, mostEdges, largestE, largestD, largestP}
+use Rattle.meaning.specs.Bounds.{mostVertices, mostEdges, largestE, largestD, largestP, largestM}
 use Rattle.meaning.specs.Text.{lineFeed, digitOf, byteWith}
 
 -- the worth of a byte that is no digit: the largest number of 16 bits
@@ -22,6 +22,7 @@ pub record AboveBounds (w : ℕ) : Type 0 where
   pub e : largestE < w
   pub d : largestD < w
   pub p : largestP < w
+  pub m : largestM < w
   pub bits : w < 65536
 
 -- what a byte is worth as a digit 0-9a-f

@@ -1,5 +1,5 @@
 -- What the reader's functions of one line return, from what their calls and their tests gave.
-use mathlib.Core.Path.{_≡_, sym, _∙_}
+use mathlib.Core.Path.{_≡_, sym, ap, _∙_}
 use Prim.Native.Nat.{ℕ, _≤_, _<_}
 use mathlib.Core.Bool.{Bool, true, false, not}
 use mathlib.Core.List.{List}
@@ -10,14 +10,14 @@ use Rattle.kinds.specs.declared.Refusal.{Refusal}
 use Rattle.kinds.specs.declared.Refusal.the-variants.{BadLine, WrongFrame, OutOfBounds, DeadlineOverSeparation, EdgeNotAfter, NoEnd}
 use Rattle.table.specs.declared.Vertex.{Vertex}
 use Rattle.table.specs.Record.{noVertex}
-use Rattle.table.specs.Inner.{vertexCells, edgeCells}
+use Rattle.table.specs.Inner.{ticks, vertexCells, edgeCells}
 use Rattle.frames.specs.declared.VertexLine.the-variants.{VertexTaken, VertexRefused}
 use Rattle.frames.specs.declared.EdgeLine.the-variants.{EdgeTaken, EdgeRefused}
 use Rattle.frames.specs.declared.TaskOrEndLine.{TaskOrEndLine}
 use Rattle.frames.specs.declared.TaskOrEndLine.the-variants.{TaskTaken, EndTaken, FrameRefused}
 use Rattle.digits.specs.Digits.{frameAt, digitCount}
 use Rattle.frames.specs.Frames.{taskDigits, partDigits, endDigits, faultOf, startsWith, vertexE, vertexD, vertexLine, edgeFrom, edgeTo, edgeP, edgeLine}
-use Rattle.frames.specs.Frames.{taskVertices, taskEdges, endLine, taskOrEndLine}
+use Rattle.frames.specs.Frames.{taskVertices, taskEdges, taskMask, endLine, taskLine, taskOrEndLine}
 use Rattle.rules.specs.Rules.{taskIn, vertexIn, edgeIn, edgeSpaced, edgeAfter}
 
 -- a call gave b for the test x, and the code went on, or left, at `!b`
@@ -107,9 +107,8 @@ module _ (n : ℕ) (vs : List Vertex) (least : ℕ) where
 
 -- ---- a task's line, and the end's
 
--- a line that starts as a task's, where one is allowed, with the numbers that stand there
+-- a task's line, where one is allowed, with the numbers that stand there
 pub record TaskSeen (k : ℕ) (t : List ℕ) (v e : ℕ) : Type 0 where
-  pub starts : startsWith t 49 taskDigits ≡ true
   pub fits : k < mostTasks
   pub v-there : v ≡ taskVertices t
   pub e-there : e ≡ taskEdges t
@@ -127,20 +126,30 @@ module _ (k : ℕ) (t : List ℕ) where
   unfolding endLine
   end-taken h e = rw (h, ne-eqb _ _ e)
 
-  pub task-kind : {x : TaskOrEndLine} → startsWith t 49 taskDigits ≡ false → x ≡ endLine k t → x ≡ taskOrEndLine k t
+  pub plain-task : {x : TaskOrEndLine} → startsWith t 49 taskDigits ≡ true → x ≡ taskLine k taskDigits 0 0 t → x ≡ taskOrEndLine k t
   unfolding taskOrEndLine
-  task-kind h e = rw (h, e)
+  plain-task h e = rw (h, e)
 
-  pub task-ninth : {w : Refusal} → startsWith t 49 taskDigits ≡ true → mostTasks ≤ k → w ≡ faultOf t taskDigits WrongFrame
-      → FrameRefused w ≡ taskOrEndLine k t
+  pub masked-task : {x : TaskOrEndLine} {m least : ℕ} → startsWith t 49 taskDigits ≡ false → startsWith t 52 partDigits ≡ true
+      → m ≡ taskMask t → x ≡ taskLine k partDigits least m t → least ≡ 1 → x ≡ taskOrEndLine k t
   unfolding taskOrEndLine
-  task-ninth h l x = rw (h, le-leb _ _ l, x)
+  masked-task {x} {m} o h q e l = rw (o, h, ← q) (e ∙ ap (λ (n : ℕ). taskLine k partDigits n m t) l)
 
-module _ {k : ℕ} {t : List ℕ} {v e : ℕ} (s : TaskSeen k t v e) where
-  pub task-outside : {w : Refusal} → taskIn v e ≡ false → w ≡ faultOf t taskDigits OutOfBounds → FrameRefused w ≡ taskOrEndLine k t
+  pub no-task : {x : TaskOrEndLine} → startsWith t 49 taskDigits ≡ false → startsWith t 52 partDigits ≡ false → x ≡ endLine k t
+      → x ≡ taskOrEndLine k t
   unfolding taskOrEndLine
-  task-outside h x = rw (s .starts, lt-leb _ _ (s .fits), ← s .v-there, ← s .e-there, h, x)
+  no-task o h e = rw (o, h, e)
 
-  pub task-taken : taskIn v e ≡ true → TaskTaken v e ≡ taskOrEndLine k t
-  unfolding taskOrEndLine
-  task-taken h = rw (s .starts, lt-leb _ _ (s .fits), ← s .v-there, ← s .e-there, h)
+  module _ (n least m : ℕ) where
+    pub task-ninth : {w : Refusal} → mostTasks ≤ k → w ≡ faultOf t n WrongFrame → FrameRefused w ≡ taskLine k n least m t
+    unfolding taskLine
+    task-ninth l x = rw (le-leb _ _ l, x)
+
+    module _ {v e : ℕ} (s : TaskSeen k t v e) where
+      pub task-outside : {w : Refusal} → taskIn v e least m ≡ false → w ≡ faultOf t n OutOfBounds → FrameRefused w ≡ taskLine k n least m t
+      unfolding taskLine
+      task-outside h x = rw (lt-leb _ _ (s .fits), ← s .v-there, ← s .e-there, h, x)
+
+      pub task-taken : taskIn v e least m ≡ true → TaskTaken v e (ticks m) ≡ taskLine k n least m t
+      unfolding taskLine
+      task-taken h = rw (lt-leb _ _ (s .fits), ← s .v-there, ← s .e-there, h)

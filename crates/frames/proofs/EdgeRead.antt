@@ -44,14 +44,14 @@ abbrev pub edgeGives : EdgeLine → ℕ → (Edge → Reading) → Reading
 edgeGives (EdgeTaken x) n go = go x
 edgeGives (EdgeRefused w) n go = unreadable (refusalNumber w) n
 
-module _ (ts : List Meant.Task) (X : List Meant.Vertex) (E : List Meant.Edge) (k n least : ℕ) (t : List ℕ)
+module _ (ts : List Meant.Task) (m : ℕ) (X : List Meant.Vertex) (E : List Meant.Edge) (k n least : ℕ) (t : List ℕ)
     (room : length X ≤ mostVertices) (follows : Follows E least)
   where
     abbrev pub before : Begun
-    before = begun ts (Meant.task X E) 0 (suc k)
+    before = begun ts (Meant.task m X E) 0 (suc k)
 
     abbrev pub behind : Edge → Reading
-    behind x = readFrom (begun ts (Meant.task X (E ++ (edgeOf x ∷ []))) 0 k) (suc n) (linesOf (drop partBytes t))
+    behind x = readFrom (begun ts (Meant.task m X (E ++ (edgeOf x ∷ []))) 0 k) (suc n) (linesOf (drop partBytes t))
 
     abbrev inside : Bool
     inside = edgeIn (length X) (edgeFrom t) (edgeTo t) (edgeP t)
@@ -66,7 +66,7 @@ module _ (ts : List Meant.Task) (X : List Meant.Vertex) (E : List Meant.Edge) (k
     edge = Meant.edge (edgeFrom t) (edgeTo t) (edgeP t)
 
     abbrev taken : Begun
-    taken = begun ts (Meant.task X (E ++ (edge ∷ []))) 0 k
+    taken = begun ts (Meant.task m X (E ++ (edge ∷ []))) 0 k
 
     edge-wrong : {f r : List ℕ} → Spelled t f r → isFrame 3 5 f ≡ true → inside ≡ false
         → edgeFrame before (getD f 1 0) (getD f 2 0) (word f 3) ≡ wrong 3
@@ -78,12 +78,12 @@ module _ (ts : List Meant.Task) (X : List Meant.Vertex) (E : List Meant.Edge) (k
     unfolding edgeIn worthOf
     edge-framed p q =
         let s : Starts t 51 partDigits = starts-says t 51 partDigits p in
-        let m = edge-bounds (length X) (edgeFrom t) (edgeTo t) (edgeP t) q in
+        let b = edge-bounds (length X) (edgeFrom t) (edgeTo t) (edgeP t) q in
         let above = foreign-above in
         let c : pairAt t 0 ≡ 3 = simp (s .first, s .second) in
         let z = spelled-of 5 t (s .long) (s .fed) (omega arith, (omega arith, (omega arith, (omega arith, (omega arith, tt))))) in
         let o : suc k - 1 ≡ k = omega arith in
-        let d = start-d X (edgeFrom t) (m .from-in) in
+        let d = start-d X (edgeFrom t) (b .from-in) in
         let a : afterLast E edge ≡ after = follows (edgeFrom t) (edgeTo t) (edgeP t) (omega arith) in
         right-read before n z ∙ simp (eq-eqb (pairAt t 0) 3 c, q, o, d, a)
 

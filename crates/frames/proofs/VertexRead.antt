@@ -1,13 +1,16 @@
 -- A vertex's line is read as it means.
 use mathlib.Core.Path.{_≡_, refl, _∙_}
-use Prim.Native.Nat.{ℕ, suc, _-_, _<_}
+use Prim.Native.Nat.{ℕ, zero, suc, _-_, _<_}
 use native.Mathlib.Omega.{arith}
-use mathlib.Core.Bool.{Bool, true, false}
+use mathlib.Core.Bool.{Bool, true, false, _||_}
 use mathlib.Core.List.{List, [], _∷_, _++_}
 use lib.ListN.{length, drop}
-use borrow.Author.Tests.{eq-eqb}
+use lib.Dec.{leb, ltb}
+use borrow.Author.Tests.{eq-eqb, lt-ltb}
 use Rattle.meaning.specs.Table as Meant
-use Rattle.meaning.specs.Text.{linesOf, Begun, begun, wrong, isFrame, word, vertexFrame, Reading, unreadable, readFrom}
+use Rattle.meaning.specs.Table.{largestEIn}
+use Rattle.meaning.specs.Text.{linesOf, Line, Begun, begun, on, wrong, gate, isFrame, word, maskFits, vertexFrame, Reading, unreadable, readFrom}
+use Rattle.meaning.proofs.Readable.{readStep}
 use Rattle.kinds.specs.declared.Refusal.the-variants.{WrongFrame, OutOfBounds}
 use Rattle.kinds.specs.Numbers.{refusalNumber}
 use Rattle.table.specs.declared.Vertex.{Vertex}
@@ -29,12 +32,23 @@ abbrev pub vertexGives : VertexLine → ℕ → (Vertex → Reading) → Reading
 vertexGives (VertexTaken x) n go = go x
 vertexGives (VertexRefused w) n go = unreadable (refusalNumber w) n
 
-module _ (ts : List Meant.Task) (vs : List Meant.Vertex) (es : List Meant.Edge) (k ne n : ℕ) (t : List ℕ) where
+module _ (ts : List Meant.Task) (m : ℕ) (es : List Meant.Edge) (ne n : ℕ) where
+  -- behind line n, with the vertices X read and k still wanted: behind the last one m is held to their largest e
+  abbrev pub vertexBehind : ℕ → List Meant.Vertex → List ℕ → Reading
+  vertexBehind zero X t = readStep (gate (leb m (largestEIn X)) 3 (on (begun ts (Meant.task m X es) 0 ne))) n (linesOf t)
+  vertexBehind (suc k) X t = readFrom (begun ts (Meant.task m X es) (suc k) ne) (suc n) (linesOf t)
+
+  mask-behind : (k : ℕ) (X : List Meant.Vertex) (t : List ℕ)
+      → readStep (gate (ltb 1 (suc k) || leb m (largestEIn X)) 3 (on (begun ts (Meant.task m X es) k ne))) n (linesOf t) ≡ vertexBehind k X t
+  mask-behind zero X t = refl
+  mask-behind (suc k) X t = rw (lt-ltb 1 (suc (suc k)) (omega arith))
+
+module _ (ts : List Meant.Task) (m : ℕ) (vs : List Meant.Vertex) (es : List Meant.Edge) (k ne n : ℕ) (t : List ℕ) where
   abbrev pub before : Begun
-  before = begun ts (Meant.task vs es) (suc k) ne
+  before = begun ts (Meant.task m vs es) (suc k) ne
 
   abbrev pub behind : Vertex → Reading
-  behind x = readFrom (begun ts (Meant.task (vs ++ (vertexOf x ∷ [])) es) k ne) (suc n) (linesOf (drop partBytes t))
+  behind x = vertexBehind ts m es ne n k (vs ++ (vertexOf x ∷ [])) (drop partBytes t)
 
   vertex-wrong : {f r : List ℕ} → Spelled t f r → isFrame 2 5 f ≡ true → vertexIn (vertexE t) (vertexD t) ≡ false
       → vertexFrame before (word f 1) (word f 3) ≡ wrong 3
@@ -46,12 +60,13 @@ module _ (ts : List Meant.Task) (vs : List Meant.Vertex) (es : List Meant.Edge) 
   unfolding vertexIn worthOf
   vertex-right p q =
       let s : Starts t 50 partDigits = starts-says t 50 partDigits p in
-      let m = vertex-bounds (vertexE t) (vertexD t) q in
+      let b = vertex-bounds (vertexE t) (vertexD t) q in
       let above = foreign-above in
       let c : pairAt t 0 ≡ 2 = simp (s .first, s .second) in
       let z = spelled-of 5 t (s .long) (s .fed) (omega arith, (omega arith, (omega arith, (omega arith, (omega arith, tt))))) in
       let o : suc k - 1 ≡ k = omega arith in
-      right-read before n z ∙ simp (eq-eqb (pairAt t 0) 2 c, q, o)
+      right-read before n z
+      ∙ simp (eq-eqb (pairAt t 0) 2 c, q, o) (mask-behind ts m es ne n k (vs ++ (Meant.vertex (vertexE t) (vertexD t) ∷ [])) (drop partBytes t))
 
   pub vertex-read : readFrom before n (linesOf t) ≡ vertexGives (vertexLine t) n behind
   unfolding vertexLine

@@ -11,7 +11,7 @@ use Rattle.kinds.specs.declared.Refusal.{Refusal}
 use Rattle.kinds.specs.declared.Refusal.the-variants.{BadLine, WrongFrame, OutOfBounds, DeadlineOverSeparation, EdgeNotAfter, NoEnd}
 use Rattle.table.specs.declared.Vertex.{Vertex}
 use Rattle.table.specs.Record.{noVertex}
-use Rattle.table.specs.Inner.{vertexCells, edgeCells}
+use Rattle.table.specs.Inner.{ticks, vertexCells, edgeCells}
 use Rattle.frames.specs.declared.VertexLine.{VertexLine}
 use Rattle.frames.specs.declared.VertexLine.the-variants.{VertexTaken, VertexRefused}
 use Rattle.frames.specs.declared.EdgeLine.{EdgeLine}
@@ -26,15 +26,16 @@ use Rattle.digits.specs.Digits.{pairAt, wordAt, frameAt, digitCount}
 abbrev pub taskDigits : ℕ
 taskDigits = 6
 
-abbrev pub taskBytes : ℕ
-taskBytes = taskDigits + 1
-
--- a vertex's, and an edge's
+-- a vertex's, an edge's, and those of a task with a masked length
 abbrev pub partDigits : ℕ
 partDigits = 10
 
 abbrev pub partBytes : ℕ
 partBytes = partDigits + 1
+
+-- of a task with the masked length m
+unfoldable pub taskBytes : ℕ → ℕ
+taskBytes m = pick (eqb m 0) (taskDigits + 1) partBytes
 
 abbrev pub endDigits : ℕ
 endDigits = 2
@@ -112,9 +113,19 @@ taskVertices t = pairAt t 2
 abbrev pub taskEdges : List ℕ → ℕ
 taskEdges t = pairAt t 4
 
+abbrev pub taskMask : List ℕ → ℕ
+taskMask t = wordAt t 6
+
+-- a task's, of n digits, with the masked length m, from `least` on
+unfoldable pub taskLine : ℕ → ℕ → ℕ → ℕ → List ℕ → TaskOrEndLine
+taskLine k n least m t =
+    pick (leb mostTasks k) (FrameRefused (faultOf t n WrongFrame))
+    (pick (taskIn (taskVertices t) (taskEdges t) least m)
+    (TaskTaken (taskVertices t) (taskEdges t) (ticks m))
+    (FrameRefused (faultOf t n OutOfBounds)))
+
 unfoldable pub taskOrEndLine : ℕ → List ℕ → TaskOrEndLine
 taskOrEndLine k t =
-    pick (startsWith t 49 taskDigits)
-    (pick (leb mostTasks k) (FrameRefused (faultOf t taskDigits WrongFrame))
-    (pick (taskIn (taskVertices t) (taskEdges t)) (TaskTaken (taskVertices t) (taskEdges t)) (FrameRefused (faultOf t taskDigits OutOfBounds))))
-    (endLine k t)
+    pick (startsWith t 49 taskDigits) (taskLine k taskDigits 0 0 t)
+    (pick (startsWith t 52 partDigits) (taskLine k partDigits 1 (taskMask t) t)
+    (endLine k t))

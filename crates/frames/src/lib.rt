@@ -19,18 +19,19 @@ use table::Edge;
 use table::Vertex;
 ghost use mathlib.Core.Path.{_≡_};
 ghost use Prim.Native.Nat.{_<_, _≤_};
+ghost use lib.ListN.{length};
 ghost use Rattle.meaning.specs.Bounds.{mostVertices};
 ghost use Rattle.digits.specs.Digits.{Worths};
-ghost use Rattle.frames.specs.Frames.{faultOf, startsWith, vertexLine, edgeLine, endLine, taskOrEndLine};
+ghost use Rattle.frames.specs.Frames.{faultOf, startsWith, vertexLine, edgeLine, endLine, taskLine, taskOrEndLine, taskBytes};
 
-// The digits of each frame's line, and with the line feed its bytes; a vertex's and an edge's have the same.
+// The digits of each frame's line, and with the line feed its bytes; a vertex's, an edge's and that of a task with a masked length have the same.
 const TASK_DIGITS: usize = 6;
 
 const PART_DIGITS: usize = 10;
 
 const END_DIGITS: usize = 2;
 
-pub const TASK_BYTES: usize = TASK_DIGITS + 1;
+const TASK_BYTES: usize = TASK_DIGITS + 1;
 
 pub const PART_BYTES: usize = PART_DIGITS + 1;
 
@@ -47,9 +48,9 @@ pub enum EdgeLine {
     EdgeRefused(Refusal),
 }
 
-// After whole tasks: another task's frame with its counts of vertices and edges, or the end frame.
+// After whole tasks: another task's frame with its counts of vertices and edges and its masked length, or the end frame.
 pub enum TaskOrEndLine {
-    TaskTaken(usize, usize),
+    TaskTaken(usize, usize, Ticks),
     EndTaken,
     FrameRefused(Refusal),
 }
@@ -157,21 +158,50 @@ pub(crate) fn end_line(w: &[u16; 256], text: &[u8], k: usize) -> TaskOrEndLine
     TaskOrEndLine::EndTaken
 }
 
-// The line after k whole tasks: another task's, or the end's.
+// A task's line of n digits, after k whole tasks, with the masked length m, from `least` on.
+pub(crate) fn task_line(
+    w: &[u16; 256],
+    text: &[u8],
+    k: usize,
+    n: usize,
+    least: u32,
+    m: u32,
+) -> TaskOrEndLine
+    requires { ⌜ (5 < n) × (n < length (now text)) × Worths (now w) ⌝ }
+    ensures { λ r. ⌜ r ≡ taskLine k n least m (now (text .entry)) ⌝ }
+{
+    if MOST_TASKS <= k {
+        return TaskOrEndLine::FrameRefused(fault(w, text, n, Refusal::WrongFrame));
+    }
+    let v = pair_at(w, text, 2);
+    let e = pair_at(w, text, 4);
+    if !task_in(v, e, least, m) {
+        return TaskOrEndLine::FrameRefused(fault(w, text, n, Refusal::OutOfBounds));
+    }
+    TaskOrEndLine::TaskTaken(v as usize, e as usize, Ticks(m as u16))
+}
+
+// The line after k whole tasks: another task's, of which "Frame 01 means m = 0; 04 with 0 is refusal 3", or the end's.
 pub fn task_or_end_line(w: &[u16; 256], text: &[u8], k: usize) -> TaskOrEndLine
     requires { ⌜ Worths (now w) ⌝ }
     ensures { λ r. ⌜ r ≡ taskOrEndLine k (now (text .entry)) ⌝ }
 {
-    if !starts(text, b'1', TASK_DIGITS) {
-        return end_line(w, text, k);
+    if starts(text, b'1', TASK_DIGITS) {
+        return task_line(w, text, k, TASK_DIGITS, 0, 0);
     }
-    if MOST_TASKS <= k {
-        return TaskOrEndLine::FrameRefused(fault(w, text, TASK_DIGITS, Refusal::WrongFrame));
+    if starts(text, b'4', PART_DIGITS) {
+        let m = word_at(w, text, 6);
+        return task_line(w, text, k, PART_DIGITS, 1, m);
     }
-    let v = pair_at(w, text, 2);
-    let e = pair_at(w, text, 4);
-    if !task_in(v, e) {
-        return TaskOrEndLine::FrameRefused(fault(w, text, TASK_DIGITS, Refusal::OutOfBounds));
+    end_line(w, text, k)
+}
+
+// The bytes of the line of a task with the masked length m.
+pub fn task_bytes(m: Ticks) -> usize
+    ensures { λ r. ⌜ r ≡ taskBytes (m .0) ⌝ }
+{
+    if m.0 == 0 {
+        return TASK_BYTES;
     }
-    TaskOrEndLine::TaskTaken(v as usize, e as usize)
+    PART_BYTES
 }

@@ -46,10 +46,10 @@ use Rattle.judge.proofs.Output.{output-fits}
 -- ---- what a call says
 
 module _ (x : Call) where
-  abbrev said : Said.Verdict
+  abbrev pub said : Said.Verdict
   said = answer (x .asked) (x .text) (x .i) (x .v) (x .b) (length (x .work)) (length (x .wit))
 
-  says : {r : Verdict} → x .r ≡ r → verdictNumbers r ≡ numbers said
+  pub says : {r : Verdict} → x .r ≡ r → verdictNumbers r ≡ numbers said
   says q = ap verdictNumbers (sym q) ∙ x .promised .verdict
 
   gives : {y : Said.Verdict} (r : Verdict) → said ≡ y → verdictNumbers r ≡ numbers y → x .r ≡ r
@@ -62,10 +62,10 @@ module _ (x : Call) where
   paths-are : {y : Said.Verdict} → said ≡ y → x .wit′ ≡ witnessAfter us y (x .wit)
   paths-are q = x .promised .paths ∙ ap (λ (y : Said.Verdict). witnessAfter us y (x .wit)) q
 
-  cells-are : {y : Said.Verdict} → said ≡ y → x .work′ ≡ workAfter y (workNeed (tasksOf (read (x .text))) (x .i) (x .v)) (x .work)
+  pub cells-are : {y : Said.Verdict} → said ≡ y → x .work′ ≡ workAfter y (workNeed (tasksOf (read (x .text))) (x .i) (x .v)) (x .work)
   cells-are q = x .promised .cells ∙ ap (λ (y : Said.Verdict). workAfter y (workNeed (tasksOf (read (x .text))) (x .i) (x .v)) (x .work)) q
 
-  on-text : {m : Reading} → read (x .text) ≡ m
+  pub on-text : {m : Reading} → read (x .text) ≡ m
       → said ≡ onReading m (λ (ts : Table). judged (x .asked) ts (x .i) (x .v) (x .b) (length (x .work)) (length (x .wit)))
   on-text q = ap (λ (m : Reading). onReading m (λ (ts : Table). judged (x .asked) ts (x .i) (x .v) (x .b) (length (x .work)) (length (x .wit)))) q
 
@@ -167,16 +167,16 @@ module _ (x : LatestCall) where
   c₁ = x .call
 
   -- what the call says, as one that asks for the latest finish
-  abbrev saidLate : Said.Verdict
+  abbrev pub saidLate : Said.Verdict
   saidLate = answer latest (c₁ .text) (c₁ .i) (c₁ .v) (c₁ .b) (length (c₁ .work)) (length (c₁ .wit))
 
   said-late : saidLate ≡ said c₁
   said-late = ap (λ (a : Said.Asked). answer a (c₁ .text) (c₁ .i) (c₁ .v) (c₁ .b) (length (c₁ .work)) (length (c₁ .wit))) (sym (x .asks))
 
-  abbrev tick : ℕ
+  abbrev pub tick : ℕ
   tick = worstAt (tasksOf (read (c₁ .text))) (c₁ .i) (c₁ .v)
 
-  abbrev ls : List Path
+  abbrev pub ls : List Path
   ls = latestPaths (tasksOf (read (c₁ .text))) (c₁ .i) (c₁ .v)
 
   -- a meets with its numbers
@@ -371,9 +371,11 @@ verdict-of-answer : (r : TableVerdict) → tableVerdictOf (answerOf r) ≡ r
 verdict-of-answer (Whole.Counted c) = refl
 verdict-of-answer (Whole.Refused at) = ap (λ (k : Refusal). Whole.Refused (record { refusal = k; place = at .place })) (refusal-of-number (at .refusal))
 
+pub same-table-verdict : (r s : TableVerdict) → answerOf r ≡ answerOf s → r ≡ s
+same-table-verdict r s q = sym (verdict-of-answer r) ∙ ap tableVerdictOf q ∙ verdict-of-answer s
+
 pub settled-table : SettledTable
-settled-table text b work r s work₁ work₂ j k =
-    (sym (verdict-of-answer r) ∙ ap tableVerdictOf (j .verdict ∙ sym (k .verdict)) ∙ verdict-of-answer s, j .cells ∙ sym (k .cells))
+settled-table text b work r s work₁ work₂ j k = (same-table-verdict r s (j .verdict ∙ sym (k .verdict)), j .cells ∙ sym (k .cells))
 
 pub settled-output : SettledOutput
 settled-output text out r s out₁ out₂ j k = (j .end ∙ sym (k .end), j .cells ∙ sym (k .cells))

@@ -1,5 +1,6 @@
 pub mod Sheet
 pub mod Higher
+pub mod Masking
 pub mod Missing
 pub mod Told
 pub mod OneVertex
@@ -9,6 +10,7 @@ pub mod WholeTable
 pub mod Answers
 pub mod Cases
 pub mod Demands
+pub mod MaskedLengths
 pub mod DeskLines
 pub mod Shown
 pub mod Desking

@@ -1,12 +1,12 @@
 -- A vertex of a held table: the answer at each return.
-use mathlib.Core.Path.{_≡_, refl, sym, ap, ap₂, subst, _∙_}
+use mathlib.Core.Path.{_≡_, refl, sym, ap, ap₂, subst, subst₂, _∙_}
 use Prim.Native.Nat.{ℕ, _+_, _*_, _≤_, _<_, min}
 use native.Mathlib.Omega.{arith}
 use native.Mathlib.Nat.{le-trans}
 use mathlib.Core.List.{List, _++_}
 use lib.ListN.{length, take, drop, getD, replicate}
 use lib.Seq.{sets, take-at, drop-at}
-use Rattle.meaning.specs.Bounds.{mostHigher, mostPaths, largestD, largestE}
+use Rattle.meaning.specs.Bounds.{mostHigher, mostPaths, largestD}
 use Rattle.meaning.specs.Table as Meant
 use Rattle.meaning.specs.Table.{taskAt, higher}
 use Rattle.meaning.specs.Verdict as Said
@@ -24,8 +24,9 @@ use Rattle.table.specs.declared.Task.{Task}
 use Rattle.table.specs.declared.Table.{Table}
 use Rattle.table.specs.Inner.{taskOf, tableOf, HeldTask, Held}
 use Rattle.table.proofs.Records.{held-count, held-one}
-use Rattle.table.proofs.Vertices.{ownTask, ownVertex, own-size, job-sound, job-d, job-e}
+use Rattle.table.proofs.Vertices.{ownTask, ownVertex, own-size, job-sound, job-d}
 use Rattle.ways.specs.Ways.{mostCounted}
+use Rattle.overload.specs.Rows.{light}
 use Rattle.walk.specs.declared.Walked.{Walked}
 use Rattle.walk.specs.Lent.{Walkable}
 use Rattle.walk.specs.Steps.{runRows}
@@ -48,6 +49,7 @@ use Rattle.judge.specs.Inner.{lastTick, There}
 use Rattle.judge.proofs.Told.{answer-refused, answer-area, answer-ended}
 use Rattle.judge.proofs.Higher.{many, seven, CountedTo, counted-none, crowds, count-pos, with-asks, counted-more, all-counted, all-few}
 use Rattle.judge.proofs.Higher.{FilledTo, filled-none, fill-asks, filled-more, filled-all}
+use Rattle.judge.proofs.Masking.{rule-e-light}
 use Rattle.judge.proofs.Missing.{MissTo, miss-none, place-asks, miss-more, miss-short}
 use Rattle.judge.proofs.Sheet.{none-crowded, first-crowded, need-rows, at-9, at-10, at-11, at-walk}
 
@@ -117,8 +119,9 @@ module _ (asked : Asked) where
   pub vertex-in : v < ownTask t i .nv
   vertex-in = omega (arith, th .vertex, own-size t k i task-in)
 
+  -- the e of the overload rule
   abbrev e : ℕ
-  e = ownVertex t i v .e .0
+  e = ownE ts i v
 
   abbrev d : ℕ
   d = ownVertex t i v .d .0
@@ -141,8 +144,8 @@ module _ (asked : Asked) where
   pub d-bounds : (0 < d) × (d ≤ largestD)
   d-bounds = let s = job-sound t k i task-in v vertex-in in (omega (arith, d-is, s .someD), omega (arith, d-is, s .mostD))
 
-  e-small : e ≤ largestE
-  e-small = let s = job-sound t k i task-in v vertex-in in omega (arith, job-e t k i task-in v vertex-in, s .mostE)
+  e-light : e ≤ light
+  e-light = rule-e-light t k i task-in v vertex-in
 
   -- ---- the higher tasks are counted, one after the other
 
@@ -152,9 +155,9 @@ module _ (asked : Asked) where
   pub count-asks : (z : Task) (j : ℕ) → j < i → HeldTask (getD (t .tasks) j z) × ((0 < d) × (0 < mostPaths + 1) × (mostPaths + 1 ≤ mostCounted))
   count-asks z j m = (held-one t k z j (omega (arith, task-in)), (d-bounds .0, omega arith, omega arith))
 
-  module _ (a : Above) (j : ℕ) (c : CountedTo ks i d a j) where
+  module _ {a : Above} {j : ℕ} (c : CountedTo ks i d a j) where
     -- the next has r paths, cut off past the most that are allowed
-    module _ (z : Task) (m : j < i) (r : ℕ) (n : r ≡ min (mostPaths + 1) (length (pathsOf (taskOf (getD (t .tasks) j z)) d))) where
+    module _ (z : Task) (m : j < i) {r : ℕ} (n : r ≡ min (mostPaths + 1) (length (pathsOf (taskOf (getD (t .tasks) j z)) d))) where
       -- "some higher task has more than 64 complete paths": the lowest-numbered such task
       pub answer-9 : mostPaths < r → {y : Lateness} → y ≡ tooManyPaths j → Refused₁ y
       answer-9 h q =
@@ -284,14 +287,15 @@ module _ (asked : Asked) where
             ∙ ap (λ (n : ℕ). drop n work) need-long)
             ∙ ap (λ (n : ℕ). zeroed n work) needs-are
 
-        pub search-asks : ((a .rows ≤ rowsFor mostPaths * mostHigher) × (d ≤ largestD) × (a .rows * d ≤ length W))
-            × Walkable i d e (a .roots) (a .counts) (take (a .rows * d) W)
-        search-asks =
-            let w : Walkable i d e (a₀ .roots) (a₀ .counts) (stretches ks d) =
-            subst (λ (n : ℕ). Walkable n d e (a₀ .roots) (a₀ .counts) (stretches ks d)) (many t k i task-in d) (walkable ks d few-paths e e-small) in
-            let x : Walkable i d e (a .roots) (a .counts) (stretches ks d) =
-            subst (λ (y : Above). Walkable i d e (y .roots) (y .counts) (stretches ks d)) (sym a-is) w in
-            ((area-asks .0, d-bounds .1, omega (arith, rooms .0, f .gathered .same)), subst (Walkable i d e (a .roots) (a .counts)) (sym front) x)
+        pub search-asks : {e′ : ℕ} → e′ ≡ e → ((a .rows ≤ rowsFor mostPaths * mostHigher) × (d ≤ largestD) × (a .rows * d ≤ length W))
+            × Walkable i d e′ (a .roots) (a .counts) (take (a .rows * d) W)
+        search-asks {e′} own =
+            let w : Walkable i d e′ (a₀ .roots) (a₀ .counts) (stretches ks d) =
+            subst₂ (λ (n x : ℕ). Walkable n d x (a₀ .roots) (a₀ .counts) (stretches ks d)) (many t k i task-in d) (sym own)
+            (walkable ks d few-paths e e-light) in
+            let x : Walkable i d e′ (a .roots) (a .counts) (stretches ks d) =
+            subst (λ (y : Above). Walkable i d e′ (y .roots) (y .counts) (stretches ks d)) (sym a-is) w in
+            ((area-asks .0, d-bounds .1, omega (arith, rooms .0, f .gathered .same)), subst (Walkable i d e′ (a .roots) (a .counts)) (sym front) x)
 
         -- ---- and walked
 
@@ -299,10 +303,10 @@ module _ (asked : Asked) where
           pub result : Walked
           pub is : result ≡ runRows (take (a .rows * d) W) d e (take i (a .roots)) (take i (a .counts)) (firstBar asks d) b
 
-        pub ran-is : {bar : ℕ} → bar ≡ firstBar asks d → {r : Walked}
-            → r ≡ runRows (take (a .rows * d) W) d e (take i (a .roots)) (take i (a .counts)) bar b
+        pub ran-is : {e′ bar : ℕ} → e′ ≡ e → bar ≡ firstBar asks d → {r : Walked}
+            → r ≡ runRows (take (a .rows * d) W) d e′ (take i (a .roots)) (take i (a .counts)) bar b
             → r ≡ runRows (take (a .rows * d) W) d e (take i (a .roots)) (take i (a .counts)) (firstBar asks d) b
-        ran-is q p = p ∙ ap (λ (n : ℕ). runRows (take (a .rows * d) W) d e (take i (a .roots)) (take i (a .counts)) n b) q
+        ran-is own q p = p ∙ ap₂ (λ (x n : ℕ). runRows (take (a .rows * d) W) d x (take i (a .roots)) (take i (a .counts)) n b) own q
 
         module _ (y : Ran) where
           abbrev r : Walked
@@ -321,7 +325,7 @@ module _ (asked : Asked) where
           ws = pathsAt ks d (r .places)
 
           seven-places : length (r .places) ≡ mostHigher
-          seven-places = places-are asks ks d few-paths e b e-small r ran-front
+          seven-places = places-are asks ks d few-paths e b e-light r ran-front
 
           -- ---- the paths that are written, one after the other
 
@@ -346,7 +350,7 @@ module _ (asked : Asked) where
                 HeldTask (getD (t .tasks) n′ z) × (0 < d) × (d ≤ largestD) × (place ≤ mostCounted) × (at + (1 + d) ≤ length now))
             write-asks =
                 let all : written asks (r .ending) (length ks) ≡ shown = ap (written asks (r .ending)) (many t k i task-in d) in
-                let small = places-small asks ks d few-paths e b e-small r ran-front n′ (omega arith) in
+                let small = places-small asks ks d few-paths e b e-light r ran-front n′ (omega arith) in
                 place-asks t k i task-in d (d-bounds .0) (d-bounds .1) (r .places) wit seven-places (rooms .1) z w low small
 
             pub writing-more : {after : List ℕ} {next : ℕ}
@@ -363,32 +367,29 @@ module _ (asked : Asked) where
 
           -- ---- what the walk says
 
-          e-is : e ≡ ownE ts i v
-          e-is = job-e t k i task-in v vertex-in
-
           judged-is : J ≡ meantBy (r .ending) ws
           judged-is =
               at-walk asks ts i v b (length work) (length wit) there none (omega (arith, needs-are, rooms .0)) (omega (arith, cells-are, rooms .1))
-              ∙ sym (ap₂ (walked asks b ks) e-is d-is) ∙ walked-is asks ks d few-paths e b e-small r ran-front
+              ∙ sym (ap (walked asks b ks e) d-is) ∙ walked-is asks ks d few-paths e b e-light r ran-front
 
           shown-are : shownPaths us (meantBy (r .ending) ws) ≡ take shown ws
           shown-are =
               ap (λ (ps : List Path). shownPaths ps (meantBy (r .ending) ws)) (meets-paths asks)
-              ∙ written-are asks ks d few-paths e b e-small r ran-front ∙ ap (λ (n : ℕ). take (written asks (r .ending) n) ws) (many t k i task-in d)
+              ∙ written-are asks ks d few-paths e b e-light r ran-front ∙ ap (λ (n : ℕ). take (written asks (r .ending) n) ws) (many t k i task-in d)
             where
               meets-paths : (z : Said.Asked) → meetsPaths z ts i v ≡ meetsOf z ks e d
               meets-paths Said.plain = refl
-              meets-paths Said.latest = ap₂ (meetsOf Said.latest ks) (sym e-is) (sym d-is)
+              meets-paths Said.latest = ap (meetsOf Said.latest ks e) (sym d-is)
 
           tick-is : r .finish ≡ beside (meantBy (r .ending) ws) tick
-          tick-is = finish-is asks ks d few-paths e b e-small r ran-front ∙ ap (beside (meantBy (r .ending) ws)) (last-tick asks)
+          tick-is = finish-is asks ks d few-paths e b e-light r ran-front ∙ ap (beside (meantBy (r .ending) ws)) (last-tick asks)
             where
               last-tick : (z : Said.Asked) → lastBar z e d (topOf ks d) .tick ≡ lastTick z ts i v
               last-tick Said.plain = d-is
-              last-tick Said.latest = ap₂ (λ (x y : ℕ). worst loadOf x y (topOf ks y)) e-is d-is
+              last-tick Said.latest = ap (λ (y : ℕ). worst loadOf e y (topOf ks y)) d-is
 
           pub finish-fits : r .finish ≤ largestD + 1
-          finish-fits = omega (arith, finish-low asks ks d few-paths e b e-small r ran-front, d-bounds .1)
+          finish-fits = omega (arith, finish-low asks ks d few-paths e b e-light r ran-front, d-bounds .1)
 
           -- the answer, where the work cells became Z and the witness area wit′
           pub answer-walked : {Z : List ℕ} → Z ≡ zeroed (a .rows * d) W → {wit′ : List ℕ} {cells : ℕ} → AllWritten wit′ cells

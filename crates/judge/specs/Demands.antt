@@ -5,15 +5,15 @@ use Prim.Native.Nat.{ℕ, _-_, _*_, _≤_, _<_}
 use mathlib.Core.Option.{Option, none, some}
 use mathlib.Core.List.{List, [], _∷_}
 use lib.ListN.{length}
-use Rattle.meaning.specs.Table.{Table, higher}
+use Rattle.meaning.specs.Table.{Table, taskAt, higher}
 use Rattle.meaning.specs.Text.{readable, unreadable, read}
-use Rattle.meaning.specs.Paths.{Path}
+use Rattle.meaning.specs.Paths.{Path, load, pathsOf}
 use Rattle.meaning.specs.Groups.{P}
-use Rattle.meaning.specs.Verdict.{cellsOf, Asked, plain, latest, ownE, topAt, C}
+use Rattle.meaning.specs.Verdict.{cellsOf, Asked, plain, latest, B, ownE, topAt, C}
 use Rattle.meaning.specs.Areas.{workNeed, zeroed, written}
 use Rattle.meaning.specs.Judge.{Row, refusal}
 use Rattle.meaning.specs.Whole.{uncounted, countsOf, verdicts}
-use Rattle.meaning.specs.Demands.{Overloadable, First, Worst, vertexTotal}
+use Rattle.meaning.specs.Demands.{Overloadable, First, Worst, SameJobs, vertexTotal}
 use Rattle.kinds.specs.declared.RefusedAt.{RefusedAt}
 use Rattle.kinds.specs.declared.Verdict.{Verdict}
 use Rattle.kinds.specs.declared.Verdict.the-variants.{Meets, Misses, Unfinished, Refused}
@@ -66,7 +66,8 @@ pub record Demand1 : Type 0 where
   pub unchanged : (x : Call) (at : RefusedAt) → x .r ≡ Refused at → (x .work′ ≡ x .work) × (x .wit′ ≡ x .wit)
 
 -- ""misses" is said only if some legal path from each of those tasks, of any length, together overload every tick up to the deadline [..]. The paths
--- returned are the first such among document 01's complete paths, in its order. "Meets" is said only if there are none."
+-- returned are the first such among document 01's complete paths, in its order. "Meets" is said only if there are none." To overload is to do so with
+-- e + B, and so it is below: "demands 2 and 3 and wish 1 read e + B".
 pub record Demand2 : Type 0 where
   pub misses-only : (x : Call) (ts : Table) → Means x ts → (c n : ℕ) → x .r ≡ Misses c n → Overloadable ts (x .i) (x .v) × (c ≡ groups x ts)
       × ((ws : List Path) × First ts (x .i) (x .v) ws × (x .wit′ ≡ written (cellsOf ws) (x .wit)) × (n ≡ length (cellsOf ws)))
@@ -135,6 +136,32 @@ pub record HowLate : Type 0 where
   pub agree : (x y : Call) → SameVertex x y → (c c′ n : ℕ) → x .r ≡ Meets c → y .r ≡ Misses c′ n → ⊥
   pub more : (text : List ℕ) (ts : Table) → read text ≡ readable ts → (i v : ℕ) → C plain ts i v ≤ C latest ts i v
 
+-- ---- masked lengths
+
+-- two calls that differ in nothing but the masked lengths in their tables, ts and us
+pub record ButForMasks (x y : Call) (ts us : Table) : Type 0 where
+  pub asked : y .asked ≡ x .asked
+  pub tables : Means x ts × Means y us
+  pub jobs : SameJobs ts us
+  pub vertex : (y .i ≡ x .i) × (y .v ≡ x .v)
+  pub budget : y .b ≡ x .b
+  pub areas : (y .work ≡ x .work) × (y .wit ≡ x .wit)
+
+-- "a vertex's e in the overload rule becomes e + B, with B the largest m among lower tasks, 0 if none." Nothing but B depends on m: no path and no load, none
+-- of the sheet's rows 8 to 11, no work cell that is needed or zeroed. Of the masked lengths B alone tells answers apart, so a task's own and those of the
+-- higher tasks play no part. Where B is larger, what overloads still does, and no job is done earlier at worst.
+pub record MaskedLengths : Type 0 where
+  pub paths : (ts us : Table) → SameJobs ts us → (j d : ℕ) → pathsOf (taskAt us j) d ≡ pathsOf (taskAt ts j) d
+  pub loads : (ts us : Table) → SameJobs ts us → (j : ℕ) (w : Path) (t : ℕ) → load (taskAt us j) w t ≡ load (taskAt ts j) w t
+  pub rows : (ts us : Table) → SameJobs ts us → (i v work wit : ℕ) → refusal us i v work wit ≡ refusal ts i v work wit
+  pub needs : (ts us : Table) → SameJobs ts us → (i v : ℕ) → workNeed us i v ≡ workNeed ts i v
+  pub work-after : (x y : Call) (ts us : Table) → ButForMasks x y ts us → y .work′ ≡ x .work′
+  pub by-B : (x y : Call) (ts us : Table) → ButForMasks x y ts us → B us (x .i) ≡ B ts (x .i) → (y .r ≡ x .r) × (y .wit′ ≡ x .wit′)
+  pub by-B-latest : (x y : LatestCall) (ts us : Table) → ButForMasks (x .call) (y .call) ts us → B us (x .call .i) ≡ B ts (x .call .i) → y .told ≡ x .told
+  pub never-kinder : (ts us : Table) → SameJobs ts us → (i v : ℕ) → B ts i ≤ B us i → Overloadable ts i v → Overloadable us i v
+  pub never-earlier : (ts us : Table) → SameJobs ts us → (i v : ℕ) → B ts i ≤ B us i → (n n′ : ℕ) (ws ws′ : List Path)
+      → Worst ts i v n ws → Worst us i v n′ ws′ → n ≤ n′
+
 -- ---- a whole table
 
 -- A call of `judge_table`.
@@ -158,3 +185,8 @@ pub record FourCounts : Type 0 where
       → (c : Counts) × (x .r ≡ Whole.Counted c) × (meantCounts c ≡ countsOf (verdicts ts (x .b) (length (x .work)))) × (totalOf (meantCounts c) ≡ vertexTotal ts)
   pub more : (x y : TableCall) → read (y .text) ≡ read (x .text) → x .b ≤ y .b → length (y .work) ≡ length (x .work) → (c d : Counts)
       → x .r ≡ Whole.Counted c → y .r ≡ Whole.Counted d → (c .meeting ≤ d .meeting) × (c .missing ≤ d .missing)
+
+-- And of a whole table: where each task's B is the same, the counts and the work cells are.
+pub record TableMasks : Type 0 where
+  pub by-B : (x y : TableCall) (ts us : Table) → read (x .text) ≡ readable ts → read (y .text) ≡ readable us → SameJobs ts us → y .b ≡ x .b → y .work ≡ x .work
+      → ((i : ℕ) → B us i ≡ B ts i) → (y .r ≡ x .r) × (y .work′ ≡ x .work′)

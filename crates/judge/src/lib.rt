@@ -60,7 +60,7 @@ fn judge_text(
         }
         let h = task.0 as usize;
         let own = table.tasks[h];
-        if no_such(vertex.0, own.nv) {
+        if no_such(vertex.0, own.nv as usize) {
             return no_such_vertex();
         }
         return judge_vertex(table, task, vertex, budget, late, work, witness);

@@ -1,15 +1,18 @@
 // "For a vertex judged under the tasks of higher priority": their paths are counted, their stretches filled, the groups walked, a miss's paths written, and
-// where the latest finish is asked for a meets's too.
+// where the latest finish is asked for a meets's too. "A vertex's e in the overload rule becomes e + B, with B the largest m among lower tasks."
 //
-// The three loops over the higher tasks stand here, where the table is, and a task at a time is handed on: handing a whole table to a function copies it.
+// The loops over the higher and the lower tasks stand here, where the table is, and a task at a time is handed on: handing a whole table to a function copies it.
 use areas::above::none_above;
 use areas::above::with_paths;
 use areas::stretches::fill_stretch;
 use areas::witness::write_place;
 use bounds::MOST_PATHS;
+use counts::places::first_lower;
 use kinds::Lateness;
 use kinds::TaskNumber;
+use kinds::Ticks;
 use kinds::VertexNumber;
+use kinds::longer;
 use paths::path_count;
 use search::first_bar;
 use search::search;
@@ -64,8 +67,16 @@ pub(crate) fn judge_vertex(
         fill_stretch(work, from, next, paths, job.d);
         k += 1;
     }
+    let mut masked = Ticks(0);
+    let mut low = first_lower(task);
+    while low < t.n {
+        let next = t.tasks[low];
+        masked = longer(masked, next.m);
+        low += 1;
+    }
+    let e = Ticks(job.e.0 + masked.0);
     let bar = first_bar(late, job.d);
-    let walked = search(work, above, h, job.e, job.d, bar, budget);
+    let walked = search(work, above, h, e, job.d, bar, budget);
     let ending = walked.ending;
     let places = walked.places;
     let shown = written_paths(late, ending, h);

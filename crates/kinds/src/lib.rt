@@ -2,6 +2,7 @@
 //
 // "A refusal is carried inside the verdict as a number and its place": the verdict's refused case holds the refusal and its line, task or cell count.
 ghost use mathlib.Core.Path.{_≡_};
+ghost use Prim.Native.Nat.{max};
 ghost use lib.ListN.{getD};
 ghost use Rattle.kinds.specs.Numbers.{refusalNumber, verdictNumbers, verdictIn, latenessNumbers};
 
@@ -10,6 +11,15 @@ pub struct Ticks(pub u16);
 pub struct TaskNumber(pub u8);
 
 pub struct VertexNumber(pub u8);
+
+pub fn longer(a: Ticks, b: Ticks) -> Ticks
+    ensures { λ r. ⌜ r .0 ≡ max (a .0) (b .0) ⌝ }
+{
+    if a.0 < b.0 {
+        return b;
+    }
+    a
+}
 
 // The rows of the refusal sheet, in its order.
 pub enum Refusal {

@@ -28,29 +28,29 @@ use Rattle.lines.proofs.Reach.{drop-part, Reach, reach-none, reach-stop
 -- ---- the lines of a task's edges
 
 -- what becomes of the reading R: it goes on with the edges F in place and `rest` to read, or it ends at line l + i
-pub data EdgesGive (R : Reading) (ts : List Meant.Task) (X : List Meant.Vertex) (l m : ℕ) (rest : List ℕ) : EdgeLines → Type 0 where
-  all-edges : (F : List Meant.Edge) → length F ≡ m → R ≡ readFrom (begun ts (Meant.task X F) 0 0) (l + length F) (linesOf rest)
-      → EdgesGive R ts X l m rest (tookEdges AllTaken (length F) (edgesRecord F))
+pub data EdgesGive (R : Reading) (ts : List Meant.Task) (m : ℕ) (X : List Meant.Vertex) (l ne : ℕ) (rest : List ℕ) : EdgeLines → Type 0 where
+  all-edges : (F : List Meant.Edge) → length F ≡ ne → R ≡ readFrom (begun ts (Meant.task m X F) 0 0) (l + length F) (linesOf rest)
+      → EdgesGive R ts m X l ne rest (tookEdges AllTaken (length F) (edgesRecord F))
   edges-stopped : (w : Refusal) (i : ℕ) (es : List Edge) → R ≡ unreadable (refusalNumber w) (l + i)
-      → EdgesGive R ts X l m rest (tookEdges (StoppedBy w) i es)
+      → EdgesGive R ts m X l ne rest (tookEdges (StoppedBy w) i es)
 
-module _ (ts : List Meant.Task) (X : List Meant.Vertex) (l m : ℕ) (room : length X ≤ mostVertices) (top : m ≤ mostEdges) where
+module _ (ts : List Meant.Task) (m : ℕ) (X : List Meant.Vertex) (l ne : ℕ) (room : length X ≤ mostVertices) (top : ne ≤ mostEdges) where
   abbrev at : List Meant.Edge → ℕ → ℕ → List ℕ → Reading
-  at E k n t = readFrom (begun ts (Meant.task X E) 0 k) n (linesOf t)
+  at E k n t = readFrom (begun ts (Meant.task m X E) 0 k) n (linesOf t)
 
   abbrev Runs : ℕ → List Meant.Edge → ℕ → List ℕ → Type 0
   Runs k E least t =
-      EdgesGive (at E k (l + length E) t) ts X l m (drop (k * partBytes) t)
+      EdgesGive (at E k (l + length E) t) ts m X l ne (drop (k * partBytes) t)
       (edgesOn (length X) (verticesRecord X) (length E) (edgesRecord E) least k t)
 
-  pub edges-run : (k : ℕ) (E : List Meant.Edge) (least : ℕ) (t : List ℕ) → Follows E least → length E + k ≡ m → Runs k E least t
+  pub edges-run : (k : ℕ) (E : List Meant.Edge) (least : ℕ) (t : List ℕ) → Follows E least → length E + k ≡ ne → Runs k E least t
   unfolding edgesOn
   edges-run zero E least t h e = all-edges E (omega arith) refl
   edges-run (suc k) E least t h e = go (edgeLine (length X) (verticesRecord X) least t) refl (λ F z s g q. edges-run k F z s g q)
     where
       go : (x : EdgeLine) → edgeLine (length X) (verticesRecord X) least t ≡ x
-          → ((F : List Meant.Edge) (z : ℕ) (s : List ℕ) → Follows F z → length F + k ≡ m → Runs k F z s) → Runs (suc k) E least t
-      go (EdgeRefused w) q ih = rw q (edges-stopped w (length E) (edgesRecord E) (edge-read ts X E k (l + length E) least t room h ∙ rw q))
+          → ((F : List Meant.Edge) (z : ℕ) (s : List ℕ) → Follows F z → length F + k ≡ ne → Runs k F z s) → Runs (suc k) E least t
+      go (EdgeRefused w) q ih = rw q (edges-stopped w (length E) (edgesRecord E) (edge-read ts m X E k (l + length E) least t room h ∙ rw q))
       go (EdgeTaken x) q ih =
           let F : List Meant.Edge = E ++ (edgeOf x ∷ []) in
           let v : EdgeHas (length X) t x = edge-has (length X) (verticesRecord X) least t x q in
@@ -59,7 +59,7 @@ module _ (ts : List Meant.Task) (X : List Meant.Vertex) (l m : ℕ) (room : leng
           let c : drop (k * partBytes) (drop partBytes t) ≡ drop (suc k * partBytes) t = drop-part k t in
           let s = drop partBytes t in
           let o : suc (l + length E) ≡ l + length F = omega arith in
-          let on : at E (suc k) (l + length E) t ≡ at F k (suc (l + length E)) s = edge-read ts X E k (l + length E) least t room h ∙ rw q in
+          let on : at E (suc k) (l + length E) t ≡ at F k (suc (l + length E)) s = edge-read ts m X E k (l + length E) least t room h ∙ rw q in
           let d : at E (suc k) (l + length E) t ≡ at F k (l + length F) s = on ∙ ap (λ (z : ℕ). at F k z s) o in
           rw (q, d, ← c, b, ← a) (ih F (leastAfter (x .from .0) (x .to .0)) s (follows-more E (edgeOf x) (omega arith)) (omega arith))
 

@@ -2,14 +2,18 @@
 use mathlib.Core.Path.{_≡_, sym, ap, subst, _∙_}
 use Prim.Native.Nat.{ℕ, suc, _+_, _-_, _*_, _≤_, _<_}
 use native.Mathlib.Omega.{arith}
+use mathlib.Core.Bool.{Bool, true, false}
 use mathlib.Core.List.{List}
 use lib.ListN.{length, drop, take, set, replicate, length-drop}
 use lib.Seq.{take-all, drop-drop}
 use Rattle.meaning.specs.Bounds.{mostVertices, mostEdges}
 use Rattle.kinds.specs.declared.Refusal.{Refusal}
+use Rattle.kinds.specs.declared.Refusal.the-variants.{OutOfBounds}
+use Rattle.kinds.specs.declared.Ticks.{Ticks}
 use Rattle.table.specs.declared.Vertex.{Vertex}
 use Rattle.table.specs.declared.Edge.{Edge}
 use Rattle.table.specs.Record.{taskCells, noVertex, noEdge}
+use Rattle.table.specs.Inner.{largestOf}
 use Rattle.frames.specs.declared.VertexLine.{VertexLine}
 use Rattle.frames.specs.declared.VertexLine.the-variants.{VertexTaken, VertexRefused}
 use Rattle.frames.specs.declared.EdgeLine.{EdgeLine}
@@ -18,8 +22,8 @@ use Rattle.lines.specs.declared.Outcome.the-variants.{AllTaken, StoppedB
 use Rattle.lines.specs.declared.VertexLines.{VertexLines}
 use Rattle.lines.specs.declared.EdgeLines.{EdgeLines}
 use Rattle.frames.specs.Frames.{partBytes, vertexLine, edgeLine}
-use Rattle.rules.specs.Rules.{leastAfter}
-use Rattle.lines.specs.Parts.{tookVertices, tookEdges, tookTask, verticesOn, vertexLines, edgesOn, edgeLines, stoppedTask, taskLines}
+use Rattle.rules.specs.Rules.{maskCovered, leastAfter}
+use Rattle.lines.specs.Parts.{tookVertices, tookEdges, tookTask, verticesOn, vertexLines, edgesOn, edgeLines, stoppedTask, covers, taskLines}
 use Rattle.frames.proofs.VertexRead.{vertex-long}
 use Rattle.lines.proofs.Vertices.{vertices-reach}
 use Rattle.frames.proofs.EdgeRead.{edge-has}
@@ -125,32 +129,44 @@ pub record VerticesSeen (s : List ℕ) (from v : ℕ) (a : VertexLines) : Type 0
   pub fits : from ≤ length s
   pub gives : a ≡ vertexLines v (drop from s)
 
--- all of them were taken, and its edges are read
-pub record EdgesSeen (s : List ℕ) (from v e : ℕ) (a : VertexLines) (b : EdgeLines) : Type 0 where
+-- the test of m, by the largest e of the first n, which are all
+pub mask-tested : (m : Ticks) (vs : List Vertex) (v n largest : ℕ) {b : Bool} → b ≡ maskCovered (m .0) largest → largest ≡ largestOf n vs → n ≡ v
+    → b ≡ covers v m vs
+mask-tested m vs v n largest q l e = q ∙ ap (maskCovered (m .0)) (l ∙ ap (λ (k : ℕ). largestOf k vs) e)
+
+-- all of them were taken, one is as long as m, and its edges are read
+pub record EdgesSeen (s : List ℕ) (from v e : ℕ) (m : Ticks) (a : VertexLines) (b : EdgeLines) : Type 0 where
   pub vertices : VerticesSeen s from v a
   pub all : a .outcome ≡ AllTaken
+  pub covered : covers v m (a .vertices) ≡ true
   pub gives : b ≡ edgeLines v (a .vertices) e (drop (from + v * partBytes) s)
 
 module _ {s : List ℕ} {from v : ℕ} {a : VertexLines} (seen : VerticesSeen s from v a) where
-  pub task-vertex-stops : (e : ℕ) {w : Refusal} → a .outcome ≡ StoppedBy w → stoppedTask w (a .count) ≡ taskLines v e (drop from s)
+  pub task-vertex-stops : (e : ℕ) (m : Ticks) {w : Refusal} → a .outcome ≡ StoppedBy w → stoppedTask w (a .count) ≡ taskLines v e m (drop from s)
   unfolding taskLines
-  task-vertex-stops e z = rw (← seen .gives, z)
+  task-vertex-stops e m z = rw (← seen .gives, z)
+
+  -- at the last vertex's line
+  pub task-mask-stops : (e : ℕ) (m : Ticks) → a .outcome ≡ AllTaken → covers v m (a .vertices) ≡ false → {i : ℕ} → i ≡ v - 1
+      → stoppedTask OutOfBounds i ≡ taskLines v e m (drop from s)
+  unfolding taskLines
+  task-mask-stops e m z c q = rw (q, ← seen .gives, z, c)
 
   pub vertices-fit : a .outcome ≡ AllTaken → from + v * partBytes ≤ length s
   vertices-fit z =
       let k : vertexLines v (drop from s) .outcome ≡ AllTaken = subst (λ (y : VertexLines). y .outcome ≡ AllTaken) (seen .gives) z in
       omega (arith, vertices-reach 0 (replicate mostVertices noVertex) v (drop from s) .room k, length-drop from s, seen .fits)
 
-module _ {s : List ℕ} {from v e : ℕ} {a : VertexLines} {b : EdgeLines} (seen : EdgesSeen s from v e a b) where
+module _ {s : List ℕ} {from v e : ℕ} {m : Ticks} {a : VertexLines} {b : EdgeLines} (seen : EdgesSeen s from v e m a b) where
   pub edges-few : b .count ≤ e
   edges-few =
       let reach = edges-reach v (a .vertices) 0 (replicate mostEdges noEdge) 0 e (drop (from + v * partBytes) s) in
       subst (λ (y : EdgeLines). y .count ≤ e) (sym (seen .gives)) (omega (arith, reach .few))
 
-  pub task-edge-stops : {w : Refusal} → b .outcome ≡ StoppedBy w → stoppedTask w (v + b .count) ≡ taskLines v e (drop from s)
+  pub task-edge-stops : {w : Refusal} → b .outcome ≡ StoppedBy w → stoppedTask w (v + b .count) ≡ taskLines v e m (drop from s)
   unfolding taskLines
-  task-edge-stops y = rw (drop-drop (v * partBytes) from s, ← seen .vertices .gives, seen .all, ← seen .gives, y)
+  task-edge-stops y = rw (drop-drop (v * partBytes) from s, ← seen .vertices .gives, seen .all, seen .covered, ← seen .gives, y)
 
-  pub task-all : b .outcome ≡ AllTaken → tookTask AllTaken (v + e) (taskCells v e (a .vertices) (b .edges)) ≡ taskLines v e (drop from s)
+  pub task-all : b .outcome ≡ AllTaken → tookTask AllTaken (v + e) (taskCells m v e (a .vertices) (b .edges)) ≡ taskLines v e m (drop from s)
   unfolding taskLines
-  task-all y = rw (drop-drop (v * partBytes) from s, ← seen .vertices .gives, seen .all, ← seen .gives, y)
+  task-all y = rw (drop-drop (v * partBytes) from s, ← seen .vertices .gives, seen .all, seen .covered, ← seen .gives, y)

@@ -1,13 +1,18 @@
 -- The lines of a task, by their count: its vertices, then its edges.
-use Prim.Native.Nat.{ℕ, zero, suc, _+_, _*_}
+use Prim.Native.Nat.{ℕ, zero, suc, _+_, _-_, _*_}
+use mathlib.Core.Bool.{Bool}
 use mathlib.Core.List.{List}
 use lib.ListN.{drop, set, replicate}
+use Rattle.meaning.specs.Lists.{pick}
 use Rattle.meaning.specs.Bounds.{mostVertices, mostEdges}
 use Rattle.kinds.specs.declared.Refusal.{Refusal}
+use Rattle.kinds.specs.declared.Refusal.the-variants.{OutOfBounds}
+use Rattle.kinds.specs.declared.Ticks.{Ticks}
 use Rattle.table.specs.declared.Vertex.{Vertex}
 use Rattle.table.specs.declared.Edge.{Edge}
 use Rattle.table.specs.declared.Task.{Task}
 use Rattle.table.specs.Record.{taskCells, noVertex, noEdge, noTask}
+use Rattle.table.specs.Inner.{largestOf}
 use Rattle.frames.specs.declared.VertexLine.{VertexLine}
 use Rattle.frames.specs.declared.VertexLine.the-variants.{VertexTaken, VertexRefused}
 use Rattle.frames.specs.declared.EdgeLine.{EdgeLine}
@@ -18,7 +23,7 @@ use Rattle.lines.specs.declared.VertexLines.{VertexLines}
 use Rattle.lines.specs.declared.EdgeLines.{EdgeLines}
 use Rattle.lines.specs.declared.TaskLines.{TaskLines}
 use Rattle.frames.specs.Frames.{partBytes, vertexLine, edgeLine}
-use Rattle.rules.specs.Rules.{leastAfter}
+use Rattle.rules.specs.Rules.{maskCovered, leastAfter}
 
 -- ---- what was taken: the outcome after so many lines, and what they gave
 
@@ -69,12 +74,18 @@ abbrev pub ifAll : Outcome → ℕ → TaskLines → TaskLines
 ifAll AllTaken n r = r
 ifAll (StoppedBy w) n r = stoppedTask w n
 
-abbrev pub taskWith : ℕ → ℕ → VertexLines → EdgeLines → TaskLines
-taskWith v e a b =
-    ifAll (a .outcome) (a .count)
-    (ifAll (b .outcome) (v + b .count)
-    (tookTask AllTaken (v + e) (taskCells v e (a .vertices) (b .edges))))
+-- the first v have the largest e that m is held to, at the last one's line
+abbrev pub covers : ℕ → Ticks → List Vertex → Bool
+covers v m vs = maskCovered (m .0) (largestOf v vs)
 
--- the lines of v vertices and e edges
-unfoldable pub taskLines : ℕ → ℕ → List ℕ → TaskLines
-taskLines v e t = let a = vertexLines v t in taskWith v e a (edgeLines v (a .vertices) e (drop (v * partBytes) t))
+abbrev pub taskWith : ℕ → ℕ → Ticks → VertexLines → EdgeLines → TaskLines
+taskWith v e m a b =
+    ifAll (a .outcome) (a .count)
+    (pick (covers v m (a .vertices))
+    (ifAll (b .outcome) (v + b .count)
+    (tookTask AllTaken (v + e) (taskCells m v e (a .vertices) (b .edges))))
+    (stoppedTask OutOfBounds (v - 1)))
+
+-- the lines of v vertices and e edges, in a task with the masked length m
+unfoldable pub taskLines : ℕ → ℕ → Ticks → List ℕ → TaskLines
+taskLines v e m t = let a = vertexLines v t in taskWith v e m a (edgeLines v (a .vertices) e (drop (v * partBytes) t))

@@ -1,4 +1,5 @@
-// "A task frame is followed by its vertices, numbered from 0, then its edges in strictly rising order of (from, to)."
+// "A task frame is followed by its vertices, numbered from 0, then its edges in strictly rising order of (from, to)." "m may not exceed its task's
+// largest e: refusal 3 at the last vertex's line, after that line's own checks."
 //
 // The lines of a task: those of its vertices, then those of its edges, each until the first that is refused.
 use bounds::MOST_EDGES;
@@ -9,7 +10,9 @@ use frames::VertexLine;
 use frames::edge_line;
 use frames::vertex_line;
 use kinds::Refusal;
+use kinds::Ticks;
 use rules::least_after;
+use rules::mask_covered;
 use table::Edge;
 use table::Task;
 use table::Vertex;
@@ -132,10 +135,17 @@ pub(crate) fn stopped(refusal: Refusal, count: usize) -> TaskLines
     }
 }
 
-// The lines of v vertices and e edges.
-pub fn read_task(w: &[u16; 256], text: &[u8], from: usize, v: usize, e: usize) -> TaskLines
-    requires { ⌜ (from ≤ length (now text)) × (v ≤ mostVertices) × (e ≤ mostEdges) × Worths (now w) ⌝ }
-    ensures { λ r. ⌜ r ≡ taskLines v e (drop from (now (text .entry))) ⌝ }
+// The lines of v vertices and e edges, in a task with the masked length m.
+pub fn read_task(
+    w: &[u16; 256],
+    text: &[u8],
+    from: usize,
+    v: usize,
+    e: usize,
+    m: Ticks,
+) -> TaskLines
+    requires { ⌜ (from ≤ length (now text)) × (1 ≤ v) × (v ≤ mostVertices) × (e ≤ mostEdges) × Worths (now w) ⌝ }
+    ensures { λ r. ⌜ r ≡ taskLines v e m (drop from (now (text .entry))) ⌝ }
 {
     let a = read_vertices(w, text, from, v);
     let first = a.outcome;
@@ -143,13 +153,17 @@ pub fn read_task(w: &[u16; 256], text: &[u8], from: usize, v: usize, e: usize) -
         return stopped(refusal, a.count);
     }
     let vertices = a.vertices;
+    let largest = table::largest_e(vertices, v);
+    if !mask_covered(m.0 as u32, largest.0 as u32) {
+        return stopped(Refusal::OutOfBounds, v - 1);
+    }
     let b = read_edges(w, text, from + v * PART_BYTES, v, vertices, e);
     let second = b.outcome;
     if let Outcome::StoppedBy(refusal) = second {
         return stopped(refusal, v + b.count);
     }
     let edges = b.edges;
-    let task = table::task_of(v, e, vertices, edges);
+    let task = table::task_of(m, v as u16, e as u16, vertices, edges);
     TaskLines {
         outcome: Outcome::AllTaken,
         count: v + e,

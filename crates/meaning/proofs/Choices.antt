@@ -1,5 +1,5 @@
 -- Choices among listed paths, as the groups have them, and as the demands do: one path of each task.
-use mathlib.Core.Path.{_≡_, refl, ap, ap₂, subst, subst₂}
+use mathlib.Core.Path.{_≡_, refl, sym, ap, ap₂, subst, subst₂}
 use Prim.Native.Nat.{ℕ, _+_, _≤_}
 use native.Mathlib.Nat.{le-refl}
 use native.Mathlib.Omega.{arith}
@@ -8,7 +8,7 @@ use mathlib.Core.List.{List, [], _∷_, map, List·Memᴰ, List·Memᴰ·head, L
 use lib.ListN.{length, length-map}
 use lib.Dec.{T, ltb, lt→ltb}
 use Rattle.meaning.specs.Lists.{gather, Rising}
-use Rattle.meaning.specs.Table.{Task}
+use Rattle.meaning.specs.Table.{Task, unmasked}
 use Rattle.meaning.specs.Paths.{Path, legal, load, pathsOf, Before}
 use Rattle.meaning.specs.Groups.{choiceLoads, choices}
 use Rattle.meaning.specs.Walk.{full}
@@ -18,6 +18,7 @@ use Rattle.meaning.specs.Demands.{EachOf, Completes, loadsAt, ChoiceBefo
 use Rattle.meaning.proofs.Lists.{both, gather-mem}
 use Rattle.meaning.proofs.Rising.{rising-one, rising-append}
 use Rattle.meaning.proofs.Groups.{In}
+use Rattle.meaning.proofs.Masks.{load-unmasked}
 use Rattle.meaning.proofs.PathsOf.{paths-legal, paths-rising, paths-some, paths-suffice}
 
 -- a legal path of each, of any length
@@ -25,7 +26,7 @@ abbrev pub Legals : List Task → List Path → Type 0
 Legals ks ws = EachOf (λ (k : Task) (w : Path). T (legal k w)) ks ws
 
 abbrev put : Task → Path → Listed
-put k w = record { task = k; path = w }
+put k w = record { task = unmasked k; path = w }
 
 -- a listed path is its task's, and one of its paths
 pub listed-mem : (d : ℕ) (k : Task) {x : Listed} → List·Memᴰ x (listed d k) → (w : Path) × List·Memᴰ w (pathsOf k d) × (put k w ≡ x)
@@ -60,7 +61,7 @@ in-loads d [] (x ∷ c) t p = absurd p
 in-loads d (k ∷ ks) [] t p = absurd p
 in-loads d (k ∷ ks) (x ∷ c) t p =
     let r = listed-mem d k (p .0) in
-    ap₂ _+_ (subst (λ (y : Listed). load k (y .path) t ≡ loadOf y t) (r .2) refl) (in-loads d ks c t (p .1))
+    ap₂ _+_ (subst (λ (y : Listed). load k (y .path) t ≡ loadOf y t) (r .2) (sym (load-unmasked k (r .0) t))) (in-loads d ks c t (p .1))
 
 -- ---- no legal paths load more than some choice
 
@@ -72,7 +73,7 @@ choice-suffices d (k ∷ ks) s [] l = absurd l
 choice-suffices d (k ∷ ks) s (w ∷ ws) l =
     let a = paths-suffice k (s k (List·Memᴰ·head refl)) d w (l .0) in
     let b = choice-suffices d ks (λ j m. s j (List·Memᴰ·tail m)) ws (l .1) in
-    (put k (a .0) ∷ b .0, (Memᴰ·map (put k) (a .1), b .1), λ t h. omega (arith, a .2 t h, b .2 t h))
+    (put k (a .0) ∷ b .0, (Memᴰ·map (put k) (a .1), b .1), λ t h. omega (arith, a .2 t h, b .2 t h, load-unmasked k (a .0) t))
 
 -- ---- the choices in order, task 0 compared first
 

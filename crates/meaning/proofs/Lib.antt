@@ -20,9 +20,11 @@ pub mod Run
 pub mod Walks
 pub mod Spots
 pub mod PathsOf
+pub mod Masks
 pub mod Choices
 pub mod Refusals
 pub mod Verdicts
+pub mod SameJobs
 pub mod Readable
 pub mod LongestText
 pub mod FaultyLine

@@ -10,15 +10,16 @@ use mathlib.Core.List.{List, [], _∷_, _++_, map, List·Memᴰ·head, List·Mem
 use lib.ListN.{length, getD, replicate}
 use lib.Dec.{T, ltb, leb, eqb, leb→le, ltb→lt, eqb→eq}
 use Rattle.meaning.specs.Lists.{pick, sum, gather, below}
-use Rattle.meaning.specs.Bounds.{mostTasks, mostVertices, mostEdges, largestE, largestD, largestP, lineLength}
+use Rattle.meaning.specs.Bounds.{mostTasks, mostVertices, mostEdges, largestE, largestD, largestP, largestM, lineLength}
 use Rattle.meaning.specs.Table.{Vertex, Edge, Task, Table, vertex, edge, task, noVertex}
 use Rattle.meaning.specs.Text.{Line, lineFeed, intoFirst, linesOf, digitOf, byteWith, hexBytes, frameOf, isFrame, word}
-use Rattle.meaning.specs.Text.{Begun, begun, nothing, closed, Step, on, over, wrong, gate, within, taskFrame, vertexFrame, afterLast, edgeFrame, framed}
-use Rattle.meaning.specs.Text.{stepAt, Reading, readable, unreadable, atEnd, readFrom, read}
+use Rattle.meaning.specs.Text.{Begun, begun, nothing, closed, Step, on, over, wrong, gate, within, taskFrame, maskFits, vertexFrame, afterLast, edgeFrame}
+use Rattle.meaning.specs.Text.{framed, stepAt, Reading, readable, unreadable, atEnd, readFrom, read}
 use Rattle.meaning.specs.Sound.{SoundTask, AllSound}
 use Rattle.meaning.specs.Desk.{line}
 use Rattle.meaning.specs.Texts.{taskLine, vertexLine, edgeLine, endLine, longestTask, longestText, taskLength, textLength, LongestText, lastLine}
 use Rattle.meaning.specs.Texts.{TextRefused}
+use borrow.Author.Tests.{ne-eqb}
 use Rattle.meaning.proofs.Lists.{both-left, both-right, length-snoc, map-append, sum-append}
 use Rattle.meaning.proofs.Readable.{readStep, step-read, read-sound, read-refused, gate-step, pick-step}
 
@@ -83,9 +84,21 @@ frame-fits l = go (l .fed) (ltb 1 (length (l .bytes)))
 abbrev tasksLength : List Task → ℕ
 tasksLength ts = sum (map taskLength ts)
 
+line-most : (m : ℕ) → taskLine m ≤ taskLine largestM
+line-most m = go (eqb m 0)
+  where
+    go : (b : Bool) → pick b (lineLength 3) (lineLength 5) ≤ lineLength 5
+    go true = omega arith
+    go false = omega arith
+
+-- that of 04 is longer
+line-04 : (m : ℕ) → 1 ≤ m → taskLine m ≡ lineLength 5
+line-04 m h = ap (λ (b : Bool). pick b (lineLength 3) (lineLength 5)) (ne-eqb m 0 (λ z. absurd (omega (arith, z))))
+
 -- b bytes were read before: the whole tasks' lines, then the open task's; it has a line of its own as soon as it has or wants a vertex
 record BytesSoFar (b : ℕ) (s : Begun) : Type 0 where
-  bytes : b ≡ tasksLength (s .tasks) + taskLine * min 1 (length (s .vertices) + s .wantV) + vertexLine * length (s .vertices) + edgeLine * length (s .edges)
+  bytes : b ≡ tasksLength (s .tasks) + min (taskLine (s .m)) (taskLine largestM * (length (s .vertices) + s .wantV))
+      + vertexLine * length (s .vertices) + edgeLine * length (s .edges)
   -- no edge without a vertex
   edges : min 1 (length (s .edges)) ≤ length (s .vertices)
 
@@ -98,10 +111,10 @@ Kept b (wrong k) = Unit {0}
 tasks-snoc : (ts : List Task) (k : Task) → tasksLength (ts ++ (k ∷ [])) ≡ tasksLength ts + taskLength k
 tasks-snoc ts k = ap sum (map-append taskLength ts (k ∷ [])) ∙ sum-append (map taskLength ts) (taskLength k ∷ []) ∙ omega arith
 
-closed-bytes : (ts : List Task) (vs : List Vertex) (es : List Edge) (b v e : ℕ) → v ≡ 0 → BytesSoFar b (begun ts (task vs es) v e)
-    → b ≡ tasksLength (closed (begun ts (task vs es) v e))
-closed-bytes ts [] es b v e w h = omega (arith, h .bytes, h .edges)
-closed-bytes ts (x ∷ vs) es b v e w h = omega (arith, h .bytes, tasks-snoc ts (task (x ∷ vs) es))
+closed-bytes : (ts : List Task) (m : ℕ) (vs : List Vertex) (es : List Edge) (b v e : ℕ) → v ≡ 0 → BytesSoFar b (begun ts (task m vs es) v e)
+    → b ≡ tasksLength (closed (begun ts (task m vs es) v e))
+closed-bytes ts m [] es b v e w h = omega (arith, h .bytes, h .edges)
+closed-bytes ts m (x ∷ vs) es b v e w h = omega (arith, h .bytes, line-most m, tasks-snoc ts (task m (x ∷ vs) es))
 
 frame-bytes : (k n : ℕ) (f : List ℕ) → T (isFrame k n f) → length f ≡ n
 frame-bytes k n f t = eqb→eq (length f) n (both-right (eqb (getD f 0 0) k) (eqb (length f) n) t)
@@ -112,28 +125,34 @@ framed-as : (b k n : ℕ) (f : List ℕ) (x : Bool) → (T x → T (isFrame k n 
 framed-as b k n f x i r s h =
     pick-step (Kept (b + lineLength (length f))) x r s (λ t. subst (λ (m : ℕ). Kept (b + lineLength m) r) (sym (frame-bytes k n f (i t))) h)
 
-task-kept : (b : ℕ) (s : Begun) (v e : ℕ) → b ≡ tasksLength (closed s) → Kept (b + taskLine) (taskFrame s v e)
-task-kept b s v e h =
-    gate-step (Kept (b + taskLine)) (within 1 mostVertices v && leb e mostEdges) 3 (on (begun (closed s) (task [] []) v e)) tt
+-- by a frame of n bytes
+task-kept : (b n : ℕ) (s : Begun) (v e least m : ℕ) → (least ≤ m → taskLine m ≡ lineLength n) → b ≡ tasksLength (closed s)
+    → Kept (b + lineLength n) (taskFrame s v e least m)
+task-kept b n s v e least m l h =
+    let counts = within 1 mostVertices v && leb e mostEdges in
+    gate-step (Kept (b + lineLength n)) (counts && within least largestM m) 3 (on (begun (closed s) (task m [] []) v e)) tt
     (λ t.
-    let r = both-left (within 1 mostVertices v) (leb e mostEdges) t in
+    let r = both-left (within 1 mostVertices v) (leb e mostEdges) (both-left counts (within least largestM m) t) in
     let low = leb→le 1 v (both-left (leb 1 v) (leb v mostVertices) r) in
-    record { bytes = omega (arith, h, low); edges = omega arith })
+    let bytes = l (leb→le least m (both-left (leb least m) (leb m largestM) (both-right counts (within least largestM m) t))) in
+    record { bytes = omega (arith, h, low, bytes, line-most m); edges = omega arith })
 
 vertex-kept : (b : ℕ) (s : Begun) (e d : ℕ) → BytesSoFar b s → 1 ≤ s .wantV → Kept (b + vertexLine) (vertexFrame s e d)
 vertex-kept b s e d h w =
     let x : Vertex = vertex e d in
+    let vs = s .vertices ++ (x ∷ []) in
     let more = length-snoc (s .vertices) x in
-    gate-step (Kept (b + vertexLine)) (within 1 largestE e && within 1 largestD d) 3
-    (on (begun (s .tasks) (task (s .vertices ++ (x ∷ [])) (s .edges)) (s .wantV - 1) (s .wantE))) tt
-    (λ t. record { bytes = omega (arith, h .bytes); edges = omega (arith, h .edges) })
+    let end : Step = on (begun (s .tasks) (task (s .m) vs (s .edges)) (s .wantV - 1) (s .wantE)) in
+    gate-step (Kept (b + vertexLine)) (within 1 largestE e && within 1 largestD d) 3 (gate (maskFits s vs) 3 end) tt
+    (λ t. gate-step (Kept (b + vertexLine)) (maskFits s vs) 3 end tt
+    (λ u. record { bytes = omega (arith, h .bytes); edges = omega (arith, h .edges) }))
 
 edge-kept : (b : ℕ) (s : Begun) (f t p : ℕ) → BytesSoFar b s → s .wantV ≡ 0 → Kept (b + edgeLine) (edgeFrame s f t p)
 edge-kept b s f t p h w =
     let x : Edge = edge f t p in
     let more = length-snoc (s .edges) x in
     let vs = s .vertices in
-    let end : Step = on (begun (s .tasks) (task vs (s .edges ++ (x ∷ []))) 0 (s .wantE - 1)) in
+    let end : Step = on (begun (s .tasks) (task (s .m) vs (s .edges ++ (x ∷ []))) 0 (s .wantE - 1)) in
     let from = ltb f (length vs) in
     let to = ltb t (length vs) in
     let b4 = leb (getD vs f noVertex .d) p in
@@ -152,12 +171,16 @@ framed-kept b s zero (suc e) f h w =
     framed-as b 3 5 f (isFrame 3 5 f) (λ t. t) (edgeFrame s (getD f 1 0) (getD f 2 0) (word f 3)) (wrong 2)
     (edge-kept b s (getD f 1 0) (getD f 2 0) (word f 3) h w) tt
 framed-kept b s zero zero f h w =
-    let all = closed-bytes (s .tasks) (s .vertices) (s .edges) b (s .wantV) (s .wantE) w h in
+    let all = closed-bytes (s .tasks) (s .m) (s .vertices) (s .edges) b (s .wantV) (s .wantE) w h in
     let few = ltb (length (closed s)) mostTasks in
     let some = ltb 0 (length (closed s)) in
-    framed-as b 1 3 f (isFrame 1 3 f && few) (both-left (isFrame 1 3 f) few) (taskFrame s (getD f 1 0) (getD f 2 0))
-    (pick (isFrame 0 1 f && some) (over (closed s)) (wrong 2)) (task-kept b s (getD f 1 0) (getD f 2 0) all)
-    (framed-as b 0 1 f (isFrame 0 1 f && some) (both-left (isFrame 0 1 f) some) (over (closed s)) (wrong 2) (ap (λ (n : ℕ). n + endLine) all) tt)
+    let end = pick (isFrame 0 1 f && some) (over (closed s)) (wrong 2) in
+    let masked = taskFrame s (getD f 1 0) (getD f 2 0) 1 (word f 3) in
+    framed-as b 1 3 f (isFrame 1 3 f && few) (both-left (isFrame 1 3 f) few) (taskFrame s (getD f 1 0) (getD f 2 0) 0 0)
+    (pick (isFrame 4 5 f && few) masked end) (task-kept b 3 s (getD f 1 0) (getD f 2 0) 0 0 (λ m. refl) all)
+    (framed-as b 4 5 f (isFrame 4 5 f && few) (both-left (isFrame 4 5 f) few) masked end
+    (task-kept b 5 s (getD f 1 0) (getD f 2 0) 1 (word f 3) (line-04 (word f 3)) all)
+    (framed-as b 0 1 f (isFrame 0 1 f && some) (both-left (isFrame 0 1 f) some) (over (closed s)) (wrong 2) (ap (λ (n : ℕ). n + endLine) all) tt))
 
 step-kept : (b m : ℕ) (s : Begun) (o : Option (List ℕ)) → Fits m o → BytesSoFar b s → Kept (b + m) (stepAt s o)
 step-kept b m s none q h = tt
@@ -200,7 +223,7 @@ text-length text ts q = subst (Bytes (length text)) q (read-bytes text)
 -- ---- no longer than the longest
 
 task-short : (k : Task) → SoundTask k → taskLength k ≤ longestTask
-task-short k s = omega (arith, s .vertexCount, s .edgeCount)
+task-short k s = omega (arith, s .vertexCount, s .edgeCount, line-most (k .m))
 
 tasks-short : (ts : List Task) → AllSound ts → tasksLength ts ≤ longestTask * length ts
 tasks-short [] s = omega arith
@@ -215,7 +238,7 @@ none-longer text ts q =
 
 abbrev fullFrames : List (List ℕ)
 fullFrames =
-    (1 ∷ mostVertices ∷ mostEdges ∷ []) ∷ replicate mostVertices (2 ∷ 0 ∷ 1 ∷ 0 ∷ 1 ∷ [])
+    (4 ∷ mostVertices ∷ mostEdges ∷ 0 ∷ 1 ∷ []) ∷ replicate mostVertices (2 ∷ 0 ∷ 1 ∷ 0 ∷ 1 ∷ [])
     ++ map (λ (i : ℕ). 3 ∷ i / mostVertices ∷ i % mostVertices ∷ 0 ∷ 1 ∷ []) (below mostEdges)
 
 abbrev fullText : List ℕ
@@ -224,7 +247,7 @@ fullText = gather (gather line) (replicate mostTasks fullFrames) ++ line (0 ∷ 
 abbrev fullTable : Table
 fullTable =
     replicate mostTasks
-    (task (replicate mostVertices (vertex 1 1)) (map (λ (i : ℕ). edge (i / mostVertices) (i % mostVertices) 1) (below mostEdges)))
+    (task 1 (replicate mostVertices (vertex 1 1)) (map (λ (i : ℕ). edge (i / mostVertices) (i % mostVertices) 1) (below mostEdges)))
 
 full-read : read fullText ≡ readable fullTable
 unfolding read

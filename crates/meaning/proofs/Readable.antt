@@ -10,12 +10,13 @@ use mathlib.Core.List.{List·Memᴰ·not-nil}
 use lib.ListN.{length, getD, List·getD-append}
 use lib.Dec.{T, ltb, leb, eqb, leb→le, ltb→lt, eqb→eq}
 use Rattle.meaning.specs.Lists.{pick, Rising}
-use Rattle.meaning.specs.Bounds.{mostTasks, mostVertices, mostEdges, largestE, largestD, largestP}
-use Rattle.meaning.specs.Table.{Vertex, Edge, Task, Table, vertex, edge, task, noVertex}
-use Rattle.meaning.specs.Text.{Line, frameOf, Begun, begun, nothing, Step, on, over, wrong, within, closed, afterLast, gate, taskFrame, vertexFrame}
-use Rattle.meaning.specs.Text.{edgeFrame, isFrame, word, framed, stepAt, Reading, readable, unreadable, atEnd, readFrom, read, linesOf}
+use Rattle.meaning.specs.Bounds.{mostTasks, mostVertices, mostEdges, largestE, largestD, largestP, largestM}
+use Rattle.meaning.specs.Table.{Vertex, Edge, Task, Table, vertex, edge, task, noVertex, largestEIn}
+use Rattle.meaning.specs.Text.{Line, frameOf, Begun, begun, nothing, Step, on, over, wrong, within, closed, afterLast, gate, taskFrame}
+use Rattle.meaning.specs.Text.{maskFits, vertexFrame, edgeFrame, isFrame, word, framed, stepAt, Reading, readable, unreadable, atEnd, readFrom, read, linesOf}
 use Rattle.meaning.specs.Sound.{SoundVertex, SoundEdge, EdgeBefore, SoundTask, AllSound, SoundTable, ReadableSound}
 use Rattle.meaning.specs.Texts.{mostLines, lastLine}
+use borrow.Author.Tests.{le-ltb}
 use Rattle.meaning.proofs.Lists.{both-left, both-right, length-snoc}
 use Rattle.meaning.proofs.Rising.{rising-one, rising-append}
 
@@ -78,6 +79,8 @@ record HeldSoFar (n : ℕ) (s : Begun) : Type 0 where
   taskCount : length (s .tasks) < mostTasks
   vertexCount : length (s .vertices) + s .wantV ≤ mostVertices
   edgeCount : length (s .edges) + s .wantE ≤ mostEdges
+  mask : s .m ≤ largestM
+  covered : s .wantV ≡ 0 → s .m ≤ largestEIn (s .vertices)
   vertices : (x : Vertex) → List·Memᴰ x (s .vertices) → SoundVertex x
   edges : (x : Edge) → List·Memᴰ x (s .edges) → SoundEdge (s .vertices) x
   rising : Rising EdgeBefore (s .edges)
@@ -122,16 +125,18 @@ record Closed (n : ℕ) (ts : Table) : Type 0 where
   line : n ≤ mostLines * length ts + 1
   count : length ts ≤ mostTasks
 
-module _ (n : ℕ) (ts : List Task) (es : List Edge) (v e : ℕ) where
+module _ (n : ℕ) (ts : List Task) (m : ℕ) (es : List Edge) (v e : ℕ) where
   abbrev reading : List Vertex → Begun
-  reading vs = begun ts (task vs es) v e
+  reading vs = begun ts (task m vs es) v e
 
-  open-sound : (x : Vertex) (vs : List Vertex) → HeldSoFar n (reading (x ∷ vs)) → SoundTask (task (x ∷ vs) es)
-  open-sound x vs h =
+  open-sound : (x : Vertex) (vs : List Vertex) → v ≡ 0 → HeldSoFar n (reading (x ∷ vs)) → SoundTask (task m (x ∷ vs) es)
+  open-sound x vs w h =
       record {
         someVertex = omega arith;
         vertexCount = omega (arith, h .vertexCount);
         edgeCount = omega (arith, h .edgeCount);
+        mostM = h .mask;
+        covered = h .covered w;
         eachVertex = h .vertices;
         eachEdge = h .edges;
         rising = h .rising;
@@ -140,20 +145,22 @@ module _ (n : ℕ) (ts : List Task) (es : List Edge) (v e : ℕ) where
   closed-held : (vs : List Vertex) → v ≡ 0 → HeldSoFar n (reading vs) → Closed n (closed (reading vs))
   closed-held [] w h = record { sound = h .tasks; line = omega (arith, h .line, no-edges es (h .edges)); count = omega (arith, h .taskCount) }
   closed-held (x ∷ vs) w h =
-      let k : Task = task (x ∷ vs) es in
+      let k : Task = task m (x ∷ vs) es in
       let more = length-snoc ts k in
       record {
-        sound = each-snoc ts k (h .tasks) (open-sound x vs h);
+        sound = each-snoc ts k (h .tasks) (open-sound x vs w h);
         line = omega (arith, h .line, h .vertexCount, h .edgeCount);
         count = omega (arith, h .taskCount);
       }
 
 -- ---- each kind of frame
 
-task-ok : (n : ℕ) (s : Begun) (v e : ℕ) → Closed n (closed s) → length (closed s) < mostTasks → Ok n (taskFrame s v e)
-task-ok n s v e c h =
-    gate-step (Ok n) (within 1 mostVertices v && leb e mostEdges) 3 (on (begun (closed s) (task [] []) v e)) outside
-    (λ t.
+task-ok : (n : ℕ) (s : Begun) (v e least m : ℕ) → Closed n (closed s) → length (closed s) < mostTasks → Ok n (taskFrame s v e least m)
+task-ok n s v e least m c h =
+    let counts = within 1 mostVertices v && leb e mostEdges in
+    gate-step (Ok n) (counts && within least largestM m) 3 (on (begun (closed s) (task m [] []) v e)) outside
+    (λ u.
+    let t = both-left counts (within least largestM m) u in
     let r = both-left (within 1 mostVertices v) (leb e mostEdges) t in
     let low = leb→le 1 v (both-left (leb 1 v) (leb v mostVertices) r) in
     record {
@@ -161,6 +168,8 @@ task-ok n s v e c h =
       taskCount = h;
       vertexCount = omega (arith, leb→le v mostVertices (both-right (leb 1 v) (leb v mostVertices) r));
       edgeCount = omega (arith, leb→le e mostEdges (both-right (within 1 mostVertices v) (leb e mostEdges) t));
+      mask = leb→le m largestM (both-right (leb least m) (leb m largestM) (both-right counts (within least largestM m) u));
+      covered = λ z. absurd (omega (arith, z));
       vertices = λ x m. absurd (List·Memᴰ·not-nil m);
       edges = λ x m. absurd (List·Memᴰ·not-nil m);
       rising = tt;
@@ -168,13 +177,19 @@ task-ok n s v e c h =
       line = omega (arith, c .line);
     })
 
+-- behind the last vertex
+fits-last : (s : Begun) (vs : List Vertex) → T (maskFits s vs) → s .wantV - 1 ≡ 0 → s .m ≤ largestEIn vs
+fits-last s vs t z = leb→le (s .m) (largestEIn vs) (subst (λ (b : Bool). T (b || leb (s .m) (largestEIn vs))) (le-ltb 1 (s .wantV) (omega (arith, z))) t)
+
 vertex-ok : (n : ℕ) (s : Begun) (e d : ℕ) → HeldSoFar n s → 1 ≤ s .wantV → Ok n (vertexFrame s e d)
 vertex-ok n s e d h w =
     let x : Vertex = vertex e d in
+    let vs = s .vertices ++ (x ∷ []) in
     let more = length-snoc (s .vertices) x in
-    gate-step (Ok n) (within 1 largestE e && within 1 largestD d) 3
-    (on (begun (s .tasks) (task (s .vertices ++ (x ∷ [])) (s .edges)) (s .wantV - 1) (s .wantE))) outside
-    (λ t.
+    let end : Step = on (begun (s .tasks) (task (s .m) vs (s .edges)) (s .wantV - 1) (s .wantE)) in
+    gate-step (Ok n) (within 1 largestE e && within 1 largestD d) 3 (gate (maskFits s vs) 3 end) outside
+    (λ t. gate-step (Ok n) (maskFits s vs) 3 end outside
+    (λ u.
     let a = both-left (within 1 largestE e) (within 1 largestD d) t in
     let b = both-right (within 1 largestE e) (within 1 largestD d) t in
     record {
@@ -182,6 +197,8 @@ vertex-ok n s e d h w =
       taskCount = h .taskCount;
       vertexCount = omega (arith, h .vertexCount);
       edgeCount = h .edgeCount;
+      mask = h .mask;
+      covered = fits-last s vs u;
       vertices = each-snoc (s .vertices) x (h .vertices) (record {
         someE = leb→le 1 e (both-left (leb 1 e) (leb e largestE) a);
         mostE = leb→le e largestE (both-right (leb 1 e) (leb e largestE) a);
@@ -192,14 +209,14 @@ vertex-ok n s e d h w =
       rising = h .rising;
       first = omega arith;
       line = omega (arith, h .line);
-    })
+    }))
 
 edge-ok : (n : ℕ) (s : Begun) (f t p : ℕ) → HeldSoFar n s → s .wantV ≡ 0 → 1 ≤ s .wantE → Ok n (edgeFrame s f t p)
 edge-ok n s f t p h w m =
     let x : Edge = edge f t p in
     let more = length-snoc (s .edges) x in
     let vs = s .vertices in
-    let end : Step = on (begun (s .tasks) (task vs (s .edges ++ (x ∷ []))) 0 (s .wantE - 1)) in
+    let end : Step = on (begun (s .tasks) (task (s .m) vs (s .edges ++ (x ∷ []))) 0 (s .wantE - 1)) in
     let from = ltb f (length vs) in
     let to = ltb t (length vs) in
     let b4 = leb (getD vs f noVertex .d) p in
@@ -215,6 +232,8 @@ edge-ok n s f t p h w m =
       taskCount = h .taskCount;
       vertexCount = omega (arith, h .vertexCount);
       edgeCount = omega (arith, h .edgeCount);
+      mask = h .mask;
+      covered = λ z. h .covered w;
       vertices = h .vertices;
       edges = each-snoc (s .edges) x (h .edges) (record {
         fromIn = ltb→lt f (length vs) (both-left from to ends);
@@ -240,13 +259,17 @@ framed-ok n s zero (suc e) f h p q =
     pick-step (Ok n) (isFrame 3 5 f) (edgeFrame s (getD f 1 0) (getD f 2 0) (word f 3)) (wrong 2)
     (λ t. edge-ok n s (getD f 1 0) (getD f 2 0) (word f 3) h p (omega arith)) not-here
 framed-ok n s zero zero f h p q =
-    let c = closed-held n (s .tasks) (s .edges) (s .wantV) (s .wantE) (s .vertices) p h in
+    let c = closed-held n (s .tasks) (s .m) (s .edges) (s .wantV) (s .wantE) (s .vertices) p h in
     let few = ltb (length (closed s)) mostTasks in
     let some = ltb 0 (length (closed s)) in
-    pick-step (Ok n) (isFrame 1 3 f && few) (taskFrame s (getD f 1 0) (getD f 2 0)) (pick (isFrame 0 1 f && some) (over (closed s)) (wrong 2))
-    (λ t. task-ok n s (getD f 1 0) (getD f 2 0) c (ltb→lt (length (closed s)) mostTasks (both-right (isFrame 1 3 f) few t)))
+    let end = pick (isFrame 0 1 f && some) (over (closed s)) (wrong 2) in
+    let masked = taskFrame s (getD f 1 0) (getD f 2 0) 1 (word f 3) in
+    pick-step (Ok n) (isFrame 1 3 f && few) (taskFrame s (getD f 1 0) (getD f 2 0) 0 0) (pick (isFrame 4 5 f && few) masked end)
+    (λ t. task-ok n s (getD f 1 0) (getD f 2 0) 0 0 c (ltb→lt (length (closed s)) mostTasks (both-right (isFrame 1 3 f) few t)))
+    (pick-step (Ok n) (isFrame 4 5 f && few) masked end
+    (λ t. task-ok n s (getD f 1 0) (getD f 2 0) 1 (word f 3) c (ltb→lt (length (closed s)) mostTasks (both-right (isFrame 4 5 f) few t)))
     (pick-step (Ok n) (isFrame 0 1 f && some) (over (closed s)) (wrong 2)
-    (λ t. over-ok n (closed s) c (ltb→lt 0 (length (closed s)) (both-right (isFrame 0 1 f) some t))) not-here)
+    (λ t. over-ok n (closed s) c (ltb→lt 0 (length (closed s)) (both-right (isFrame 0 1 f) some t))) not-here))
 
 step-ok : (n : ℕ) (s : Begun) (o : Option (List ℕ)) → HeldSoFar n s → Ok n (stepAt s o)
 step-ok n s none h = record { low = omega arith; high = omega arith }
@@ -301,6 +324,8 @@ read-good text =
       taskCount = omega arith;
       vertexCount = omega arith;
       edgeCount = omega arith;
+      mask = omega arith;
+      covered = λ z. omega arith;
       vertices = λ x m. absurd (List·Memᴰ·not-nil m);
       edges = λ x m. absurd (List·Memᴰ·not-nil m);
       rising = tt;

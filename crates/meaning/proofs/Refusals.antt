@@ -96,4 +96,5 @@ pub some-execution : (ts : Table) → SoundTable ts → (i v work wit : ℕ) →
 some-execution ts s i v work wit q =
     let a = none-admits ts i v work wit q in
     let k = taskAt ts i in
-    s .eachTask k (mem-getD noTask ts i (a .task)) .eachVertex (vertexAt k v) (mem-getD noVertex (k .vertices) v (a .vertex)) .someE
+    let x = s .eachTask k (mem-getD noTask ts i (a .task)) .eachVertex (vertexAt k v) (mem-getD noVertex (k .vertices) v (a .vertex)) in
+    omega (arith, x .someE)

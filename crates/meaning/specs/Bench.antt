@@ -1,4 +1,4 @@
--- The bench examples R1 to R8, and tables of which the latest finish is asked, as one table under one claim; `proofs/Bench` proves it.
+-- The bench examples R1 to R8, tables of which the latest finish is asked, and masked lengths, as one table under one claim; `proofs/Bench` proves it.
 use Prim.Native.Nat.{ℕ, _-_, _*_}
 use Prim.Native.Char.{code}
 use Prim.Native.String.{String, [] as []ˢ, _∷_ as _∷ˢ_}
@@ -11,6 +11,7 @@ use Rattle.meaning.specs.Table.{Task, Table, vertex, edge, task}
 use Rattle.meaning.specs.Paths.{completePaths}
 use Rattle.meaning.specs.Groups.{P}
 use Rattle.meaning.specs.Verdict.{Verdict, numbers, cellsOf, missPaths, lateNumbers, shownPaths, plain, latest, topAt, worstAt, latestPaths}
+use Rattle.meaning.specs.Text.{read, checked}
 use Rattle.meaning.specs.Judge.{judged}
 use Rattle.meaning.specs.Desk.{output}
 
@@ -36,10 +37,14 @@ right x = same (x .got) (x .said)
 -- ---- tables
 
 abbrev pub selfEdge : ℕ → ℕ → ℕ → Task
-selfEdge e d p = task (vertex e d ∷ []) (edge 0 0 p ∷ [])
+selfEdge e d p = task 0 (vertex e d ∷ []) (edge 0 0 p ∷ [])
 
 abbrev pub lone : ℕ → ℕ → Task
-lone e d = task (vertex e d ∷ []) []
+lone e d = task 0 (vertex e d ∷ []) []
+
+-- the same with a masked length m
+abbrev pub masking : ℕ → ℕ → ℕ → Task
+masking m e d = task m (vertex e d ∷ []) []
 
 -- R1 with the last e = 1
 abbrev pub r2 : Table
@@ -47,10 +52,10 @@ r2 = selfEdge 2 5 5 ∷ selfEdge 2 7 7 ∷ selfEdge 1 6 7 ∷ []
 
 -- above, two vertices e 1 and e 3, no edges; judged e 2
 abbrev pub r5 : ℕ → Table
-r5 d = task (vertex 1 5 ∷ vertex 3 5 ∷ []) [] ∷ lone 2 d ∷ []
+r5 d = task 0 (vertex 1 5 ∷ vertex 3 5 ∷ []) [] ∷ lone 2 d ∷ []
 
 abbrev pub r7above : Task
-r7above = task (vertex 3 10 ∷ vertex 1 2 ∷ vertex 4 10 ∷ []) (edge 1 2 2 ∷ [])
+r7above = task 0 (vertex 3 10 ∷ vertex 1 2 ∷ vertex 4 10 ∷ []) (edge 1 2 2 ∷ [])
 
 abbrev pub r7 : Table
 r7 = r7above ∷ lone 1 5 ∷ []
@@ -67,6 +72,31 @@ r1In = "010101\n0200020005\n0300000005\n010101\n0200020007\n0300000007\n010101\n
 
 abbrev pub r1Out : String
 r1Out = "1000000000000001\n1001000000000001\n1002000100000001\n1100020000\n11010100\n1f02010000\n"
+
+-- R2's frames, without the end
+abbrev pub r2Frames : String
+r2Frames = "010101\n0200020005\n0300000005\n010101\n0200020007\n0300000007\n010101\n0200010006\n0300000007\n"
+
+-- one vertex e 1 d 100, m 1; and the same with m 0
+abbrev pub maskFrames : String
+maskFrames = "0401000001\n0200010064\n"
+
+abbrev pub unmaskedFrames : String
+unmaskedFrames = "010100\n0200010064\n"
+
+-- what the desk writes for frames, and what the text check says of them
+abbrev pub deskOf : List ℕ → List ℕ
+deskOf frames = output (frames ++ bytes "00\n")
+
+abbrev pub checkOf : String → List ℕ
+checkOf text = checked (read (bytes text))
+
+-- the desk's output, where R2's vertex misses: with a task below it, and with one above it
+abbrev pub missBelow : String
+missBelow = "1000000000000001\n1001000000000001\n1002000100000001\n1100020000\n11010100\n1003000000000001\n1f03010000\n"
+
+abbrev pub missAbove : String
+missAbove = "1000000000000001\n1001000000000001\n1002000000000001\n1003000100000001\n11000100\n1101020000\n11020100\n1f03010000\n"
 
 -- each path with its length before it
 abbrev pub pathList : Task → ℕ → List ℕ
@@ -88,11 +118,11 @@ lateWith b ts i =
 
 -- above, four vertices of these e, no edges; judged e 2, d 6
 abbrev pub below : ℕ → ℕ → ℕ → ℕ → Table
-below a b c d = task (vertex a 5 ∷ vertex b 5 ∷ vertex c 5 ∷ vertex d 5 ∷ []) [] ∷ lone 2 6 ∷ []
+below a b c d = task 0 (vertex a 5 ∷ vertex b 5 ∷ vertex c 5 ∷ vertex d 5 ∷ []) [] ∷ lone 2 6 ∷ []
 
 -- above, two tasks of two such vertices each; judged e 1, d 6
 abbrev pub belowTwo : ℕ → ℕ → ℕ → ℕ → Table
-belowTwo a b c d = task (vertex a 5 ∷ vertex b 5 ∷ []) [] ∷ task (vertex c 5 ∷ vertex d 5 ∷ []) [] ∷ lone 1 6 ∷ []
+belowTwo a b c d = task 0 (vertex a 5 ∷ vertex b 5 ∷ []) [] ∷ task 0 (vertex c 5 ∷ vertex d 5 ∷ []) [] ∷ lone 1 6 ∷ []
 
 abbrev pub examples : List Example
 examples =
@@ -143,6 +173,32 @@ examples =
     -- a miss, with the old witness and this call's C: document 01's walk doesn't go into the first half of the range
     ∷ (judgedWith deskBudget (below 1 1 5 1) 1 gives (1 ∷ 4 ∷ 2 ∷ 1 ∷ 2 ∷ []))
     ∷ (lateWith deskBudget (below 1 1 5 1) 1 gives (1 ∷ 6 ∷ 2 ∷ 1 ∷ 2 ∷ []))
+    -- masked lengths. R2 with m 1 below it: tick 5 has 2 + 2 + 2, tick 6 has 2 + 4 + 2; C = 1, paths (0,0) and (0)
+    ∷ (deskOf (bytes r2Frames ++ bytes maskFrames) gives (bytes missBelow))
+    ∷ (lateWith deskBudget (r2 ++ (masking 1 1 100 ∷ [])) 2 gives (1 ∷ 1 ∷ 5 ∷ 2 ∷ 0 ∷ 0 ∷ 1 ∷ 0 ∷ []))
+    -- above it instead, its m plays no part: the answer is the one with frame 01. R2's vertex misses by the new task's e; the one above it would too, if
+    -- the m of a higher task counted
+    ∷ (deskOf (bytes maskFrames ++ bytes r2Frames) gives (bytes missAbove))
+    ∷ (deskOf (bytes unmaskedFrames ++ bytes r2Frames) gives (bytes missAbove))
+    -- R7 with m 1 below it: path (0) leaves tick 5 free, 2 + 3; path (1,2) none, 2 + 1 up to tick 2 and 2 + 5 from there on, so it is the witness; C = 4
+    ∷ (judgedWith deskBudget (r7 ++ (masking 1 1 100 ∷ [])) 1 gives (1 ∷ 4 ∷ 3 ∷ 2 ∷ 1 ∷ 2 ∷ []))
+    ∷ (judgedWith 3 (r7 ++ (masking 1 1 100 ∷ [])) 1 gives (2 ∷ 3 ∷ []))
+    -- the largest m of the lower tasks, 3, the first's or the second's: 2 + 3. Of a task its own plays no part: e 3, m 2 below, and 2 above
+    ∷ (lateWith deskBudget (lone 2 9 ∷ masking 3 3 9 ∷ masking 2 2 9 ∷ []) 0 gives (0 ∷ 1 ∷ 0 ∷ 5 ∷ []))
+    ∷ (lateWith deskBudget (lone 2 9 ∷ masking 2 2 9 ∷ masking 3 3 9 ∷ []) 0 gives (0 ∷ 1 ∷ 0 ∷ 5 ∷ []))
+    ∷ (lateWith deskBudget (lone 2 9 ∷ masking 3 3 9 ∷ masking 2 2 9 ∷ []) 1 gives (0 ∷ 1 ∷ 2 ∷ 7 ∷ 1 ∷ 0 ∷ []))
+    -- 04 with 0, with 1,001, and with 1,000
+    ∷ (checkOf "0401000000\n0200010009\n00\n" gives (3 ∷ 1 ∷ []))
+    ∷ (checkOf "04010003e9\n0203e80009\n00\n" gives (3 ∷ 1 ∷ []))
+    ∷ (checkOf "04010003e8\n0203e80009\n00\n" gives (0 ∷ 0 ∷ []))
+    -- m 5 is the largest e, in the last vertex or the first; one less, and the last vertex's line is refused, before a faulty edge's
+    ∷ (checkOf "0402000005\n0200040009\n0200050009\n00\n" gives (0 ∷ 0 ∷ []))
+    ∷ (checkOf "0402000005\n0200050009\n0200040009\n00\n" gives (0 ∷ 0 ∷ []))
+    ∷ (checkOf "0402010005\n0200040009\n0200040009\n0302000009\n00\n" gives (3 ∷ 3 ∷ []))
+    -- 04 of another length, and where a vertex or an edge must come
+    ∷ (checkOf "040100\n0200010009\n00\n" gives (2 ∷ 1 ∷ []))
+    ∷ (checkOf "010100\n0401000001\n00\n" gives (2 ∷ 2 ∷ []))
+    ∷ (checkOf "010101\n0200010001\n0401000001\n00\n" gives (2 ∷ 3 ∷ []))
     ∷ []
 
 -- the claim

@@ -1,4 +1,4 @@
--- The bounds that document 01 sets on tables, judging and the desk program, each once, and what follows from them. The numbers of frames and refusals
+-- The bounds that document 01 and wish 3 set on tables, judging and the desk program, each once, and what follows from them. The numbers of frames and refusals
 -- stand where these are defined.
 use Prim.Native.Nat.{ℕ, _+_, _-_, _*_}
 
@@ -13,7 +13,7 @@ mostVertices = 12
 abbrev pub mostEdges : ℕ
 mostEdges = 32
 
--- the largest e, d and p; the least of each is 1
+-- the largest e, d, p and m; the least of each is 1, and a task without a masked length has m = 0
 abbrev pub largestE : ℕ
 largestE = 1000
 
@@ -22,6 +22,9 @@ largestD = 200
 
 abbrev pub largestP : ℕ
 largestP = 1000
+
+abbrev pub largestM : ℕ
+largestM = 1000
 
 -- ---- judging
 

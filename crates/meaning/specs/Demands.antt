@@ -9,7 +9,7 @@ use lib.ListN.{length}
 use lib.Dec.{T}
 use Rattle.meaning.specs.Text.{readable, read}
 use Rattle.meaning.specs.Lists.{sum, Rising}
-use Rattle.meaning.specs.Table.{Task, Table, higher}
+use Rattle.meaning.specs.Table.{Task, Table, higher, unmasked}
 use Rattle.meaning.specs.Paths.{Path, legal, complete, load, completePaths, pathsOf, Before}
 use Rattle.meaning.specs.Verdict.{refused, ownE, deadline}
 use Rattle.meaning.specs.Whole.{Place, places, verdictAt}
@@ -42,7 +42,7 @@ ChoiceBefore [] us = ⊥
 ChoiceBefore (w ∷ ws) [] = ⊥
 ChoiceBefore (w ∷ ws) (u ∷ us) = Before w u ⊎ ((w ≡ u) × ChoiceBefore ws us)
 
--- ---- demand 2
+-- ---- demand 2, in which e is `ownE`: "demands 2 and 3 and wish 1 read e + B"
 
 -- some legal path from each of the higher tasks, of any length, together overload every tick up to the deadline
 abbrev pub Overloadable : Table → ℕ → ℕ → Type 0
@@ -71,6 +71,12 @@ pub record Worst (ts : Table) (i v n : ℕ) (ws : List Path) : Type 0 where
   pub reached : Finishes ts i v ws n
   pub largest : (us : List Path) → EachOf (λ (k : Task) (w : Path). T (legal k w)) (higher ts i) us → (t : ℕ) × Finishes ts i v us t × (t ≤ n)
   pub first : (us : List Path) → Completes (deadline ts i v) (higher ts i) us → Finishes ts i v us n → (ws ≡ us) ⊎ ChoiceBefore ws us
+
+-- ---- masked lengths
+
+-- the same tasks in the same order, but for their masked lengths
+abbrev pub SameJobs : Table → Table → Type 0
+SameJobs ts us = map unmasked us ≡ map unmasked ts
 
 -- ---- paths
 

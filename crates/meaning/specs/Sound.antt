@@ -1,12 +1,13 @@
--- What every readable table keeps: the bounds, d at most p, edges strictly rising with their ends in the task. `proofs/Readable` proves it.
+-- What every readable table keeps: the bounds, m at most the task's largest e, d at most p, edges strictly rising with their ends in the task;
+-- `proofs/Readable` proves it.
 use mathlib.Core.Path.{_≡_}
 use mathlib.Core.Logic.{_⊎_}
 use Prim.Native.Nat.{ℕ, _≤_, _<_}
 use mathlib.Core.List.{List, List·Memᴰ}
 use lib.ListN.{length, getD}
 use Rattle.meaning.specs.Lists.{Rising}
-use Rattle.meaning.specs.Bounds.{mostTasks, mostVertices, mostEdges, largestE, largestD, largestP}
-use Rattle.meaning.specs.Table.{Vertex, Edge, Task, Table, noVertex}
+use Rattle.meaning.specs.Bounds.{mostTasks, mostVertices, mostEdges, largestE, largestD, largestP, largestM}
+use Rattle.meaning.specs.Table.{Vertex, Edge, Task, Table, noVertex, largestEIn}
 use Rattle.meaning.specs.Text.{readable, read}
 
 pub record SoundVertex (x : Vertex) : Type 0 where
@@ -31,6 +32,8 @@ pub record SoundTask (k : Task) : Type 0 where
   pub someVertex : 1 ≤ length (k .vertices)
   pub vertexCount : length (k .vertices) ≤ mostVertices
   pub edgeCount : length (k .edges) ≤ mostEdges
+  pub mostM : k .m ≤ largestM
+  pub covered : k .m ≤ largestEIn (k .vertices)
   pub eachVertex : (x : Vertex) → List·Memᴰ x (k .vertices) → SoundVertex x
   pub eachEdge : (x : Edge) → List·Memᴰ x (k .edges) → SoundEdge (k .vertices) x
   pub rising : Rising EdgeBefore (k .edges)

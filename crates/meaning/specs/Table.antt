@@ -1,7 +1,8 @@
 -- What the tool judges: a table of tasks in priority order, task 0 highest; times in ticks.
-use Prim.Native.Nat.{ℕ}
-use mathlib.Core.List.{List, []}
-use lib.ListN.{getD, take}
+use Prim.Native.Nat.{ℕ, suc}
+use mathlib.Core.List.{List, [], map}
+use lib.ListN.{getD, take, drop}
+use Rattle.meaning.specs.Lists.{largest}
 
 -- a job type: its execution time e and its deadline d
 pub record Vertex : Type 0 where
@@ -14,7 +15,9 @@ pub record Edge : Type 0 where
   pub to : ℕ
   pub p : ℕ
 
+-- "A task may have a masked length m", for which it lets no other task run; 0 if it has none
 pub record Task : Type 0 where
+  pub m : ℕ
   pub vertices : List Vertex
   pub edges : List Edge
 
@@ -29,8 +32,8 @@ vertex e d = record { e = e; d = d }
 abbrev pub edge : ℕ → ℕ → ℕ → Edge
 edge from to p = record { from = from; to = to; p = p }
 
-abbrev pub task : List Vertex → List Edge → Task
-task vs es = record { vertices = vs; edges = es }
+abbrev pub task : ℕ → List Vertex → List Edge → Task
+task m vs es = record { m = m; vertices = vs; edges = es }
 
 -- ---- by number
 
@@ -38,7 +41,7 @@ abbrev pub noVertex : Vertex
 noVertex = vertex 0 0
 
 abbrev pub noTask : Task
-noTask = task [] []
+noTask = task 0 [] []
 
 abbrev pub vertexAt : Task → ℕ → Vertex
 vertexAt k v = getD (k .vertices) v noVertex
@@ -49,3 +52,21 @@ taskAt ts i = getD ts i noTask
 -- the tasks of higher priority than task i
 abbrev pub higher : Table → ℕ → List Task
 higher ts i = take i ts
+
+-- and those of lower priority
+abbrev pub lower : Table → ℕ → List Task
+lower ts i = drop (suc i) ts
+
+-- ---- masked lengths
+
+-- "its task's largest e", of the vertices vs
+abbrev pub largestEIn : List Vertex → ℕ
+largestEIn vs = largest (map (λ (x : Vertex). x .e) vs)
+
+-- the largest m of tasks, "0 if none"
+abbrev pub largestMIn : List Task → ℕ
+largestMIn ks = largest (map (λ (k : Task). k .m) ks)
+
+-- the same task without a masked length
+abbrev pub unmasked : Task → Task
+unmasked k = task 0 (k .vertices) (k .edges)

@@ -6,8 +6,8 @@ use mathlib.Core.List.{List, [], _∷_, _++_}
 use lib.ListN.{length, getD}
 use lib.Dec.{leb, ltb, eqb}
 use Rattle.meaning.specs.Lists.{pick}
-use Rattle.meaning.specs.Bounds.{mostTasks, mostVertices, mostEdges, largestE, largestD, largestP}
-use Rattle.meaning.specs.Table.{Vertex, Edge, Task, Table, vertex, edge, task, noVertex}
+use Rattle.meaning.specs.Bounds.{mostTasks, mostVertices, mostEdges, largestE, largestD, largestP, largestM}
+use Rattle.meaning.specs.Table.{Vertex, Edge, Task, Table, vertex, edge, task, noVertex, noTask, largestEIn}
 
 -- ---- lines
 
@@ -62,6 +62,7 @@ word f i = getD f i 0 * 256 + getD f (suc i) 0
 -- What was read before a line: whole tasks, then the task that is being read, and how many vertices and edges it still wants.
 pub record Begun : Type 0 where
   pub tasks : List Task
+  pub m : ℕ
   pub vertices : List Vertex
   pub edges : List Edge
   pub wantV : ℕ
@@ -69,14 +70,14 @@ pub record Begun : Type 0 where
 
 -- the tasks ts, then as much of the task k, and its wants
 abbrev pub begun : List Task → Task → ℕ → ℕ → Begun
-begun ts k v e = record { tasks = ts; vertices = k .vertices; edges = k .edges; wantV = v; wantE = e }
+begun ts k v e = record { tasks = ts; m = k .m; vertices = k .vertices; edges = k .edges; wantV = v; wantE = e }
 
 abbrev pub nothing : Begun
-nothing = begun [] (task [] []) 0 0
+nothing = begun [] noTask 0 0
 
 -- all tasks, with the one that was just read to its end
 abbrev pub closed : Begun → List Task
-closed s = elim (s .vertices) [ [] ↦ s .tasks | v ∷ vs ↦ s .tasks ++ (task (s .vertices) (s .edges) ∷ []) ]
+closed s = elim (s .vertices) [ [] ↦ s .tasks | v ∷ vs ↦ s .tasks ++ (task (s .m) (s .vertices) (s .edges) ∷ []) ]
 
 -- a line is read and the text goes on, or it was the end frame, or it is refused with a number
 pub data Step : Type 0 where
@@ -92,15 +93,22 @@ gate false n s = wrong n
 abbrev pub within : ℕ → ℕ → ℕ → Bool
 within low high n = leb low n && leb n high
 
-abbrev pub taskFrame : Begun → ℕ → ℕ → Step
-taskFrame s nv ne =
-    gate (within 1 mostVertices nv && leb ne mostEdges) 3
-    (on (begun (closed s) (task [] []) nv ne))
+-- of a task with the masked length m, which is at least `least`
+abbrev pub taskFrame : Begun → ℕ → ℕ → ℕ → ℕ → Step
+taskFrame s nv ne least m =
+    gate (within 1 mostVertices nv && leb ne mostEdges && within least largestM m) 3
+    (on (begun (closed s) (task m [] []) nv ne))
+
+-- "m may not exceed its task's largest e: refusal 3 at the last vertex's line": as long as another is wanted behind it, it isn't the last
+abbrev pub maskFits : Begun → List Vertex → Bool
+maskFits s vs = ltb 1 (s .wantV) || leb (s .m) (largestEIn vs)
 
 abbrev pub vertexFrame : Begun → ℕ → ℕ → Step
 vertexFrame s e d =
+    let vs = s .vertices ++ (vertex e d ∷ []) in
     gate (within 1 largestE e && within 1 largestD d) 3
-    (on (begun (s .tasks) (task (s .vertices ++ (vertex e d ∷ [])) (s .edges)) (s .wantV - 1) (s .wantE)))
+    (gate (maskFits s vs) 3
+    (on (begun (s .tasks) (task (s .m) vs (s .edges)) (s .wantV - 1) (s .wantE))))
 
 -- strictly rising order of (from, to): an edge stands after the one before it in its task
 abbrev pub afterLast : List Edge → Edge → Bool
@@ -113,15 +121,17 @@ edgeFrame s from to p =
     gate (ltb from (length (s .vertices)) && ltb to (length (s .vertices)) && within 1 largestP p) 3
     (gate (leb (getD (s .vertices) from noVertex .d) p) 4
     (gate (afterLast (s .edges) (edge from to p)) 5
-    (on (begun (s .tasks) (task (s .vertices) (s .edges ++ (edge from to p ∷ []))) 0 (s .wantE - 1)))))
+    (on (begun (s .tasks) (task (s .m) (s .vertices) (s .edges ++ (edge from to p ∷ []))) 0 (s .wantE - 1)))))
 
--- a task frame is followed by its vertices, then its edges; then another task or the end: by how many vertices and edges are still wanted
+-- a task frame is followed by its vertices, then its edges; then another task or the end: by how many vertices and edges are still wanted.
+-- "New task frame: 04, vertices, edges, m (2 bytes, 1 to 1,000). Frame 01 means m = 0; 04 with 0 is refusal 3."
 abbrev pub framed : Begun → ℕ → ℕ → List ℕ → Step
 framed s (suc v) e f = pick (isFrame 2 5 f) (vertexFrame s (word f 1) (word f 3)) (wrong 2)
 framed s zero (suc e) f = pick (isFrame 3 5 f) (edgeFrame s (getD f 1 0) (getD f 2 0) (word f 3)) (wrong 2)
 framed s zero zero f =
-    pick (isFrame 1 3 f && ltb (length (closed s)) mostTasks) (taskFrame s (getD f 1 0) (getD f 2 0))
-    (pick (isFrame 0 1 f && ltb 0 (length (closed s))) (over (closed s)) (wrong 2))
+    pick (isFrame 1 3 f && ltb (length (closed s)) mostTasks) (taskFrame s (getD f 1 0) (getD f 2 0) 0 0)
+    (pick (isFrame 4 5 f && ltb (length (closed s)) mostTasks) (taskFrame s (getD f 1 0) (getD f 2 0) 1 (word f 3))
+    (pick (isFrame 0 1 f && ltb 0 (length (closed s))) (over (closed s)) (wrong 2)))
 
 abbrev pub stepAt : Begun → Option (List ℕ) → Step
 stepAt s none = wrong 1

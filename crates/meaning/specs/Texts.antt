@@ -3,16 +3,17 @@ use mathlib.Core.Path.{_≡_}
 use Prim.Native.Nat.{ℕ, suc, _+_, _*_, _≤_, _<_}
 use mathlib.Core.List.{List, map}
 use lib.ListN.{length, take}
-use Rattle.meaning.specs.Lists.{sum}
-use Rattle.meaning.specs.Bounds.{mostTasks, mostVertices, mostEdges, lineLength}
+use lib.Dec.{eqb}
+use Rattle.meaning.specs.Lists.{pick, sum}
+use Rattle.meaning.specs.Bounds.{mostTasks, mostVertices, mostEdges, largestM, lineLength}
 use Rattle.meaning.specs.Table.{Task, Table}
 use Rattle.meaning.specs.Text.{linesOf, readable, unreadable, read}
 
 -- ---- readable texts: the bytes of their lines
 
--- 01, vertices, edges
-abbrev pub taskLine : ℕ
-taskLine = lineLength 3
+-- 01, vertices, edges; with a masked length 04, vertices, edges, m in 2 bytes
+abbrev pub taskLine : ℕ → ℕ
+taskLine m = pick (eqb m 0) (lineLength 3) (lineLength 5)
 
 -- 02, e in 2 bytes, d in 2
 abbrev pub vertexLine : ℕ
@@ -28,23 +29,23 @@ endLine = lineLength 1
 
 -- a task's own line, its vertices' and its edges'
 abbrev pub longestTask : ℕ
-longestTask = taskLine + mostVertices * vertexLine + mostEdges * edgeLine
+longestTask = taskLine largestM + mostVertices * vertexLine + mostEdges * edgeLine
 
 abbrev pub longestText : ℕ
 longestText = mostTasks * longestTask + endLine
 
 -- the bytes of a task's lines: its own, its vertices' and its edges'
 abbrev pub taskLength : Task → ℕ
-taskLength k = taskLine + vertexLine * length (k .vertices) + edgeLine * length (k .edges)
+taskLength k = taskLine (k .m) + vertexLine * length (k .vertices) + edgeLine * length (k .edges)
 
 -- every task's lines, then the end frame's
 abbrev pub textLength : Table → ℕ
 textLength ts = sum (map taskLength ts) + endLine
 
--- "The longest valid text has 3,931 bytes." A readable text has exactly the bytes of its table's lines; none has more than that number, and some text
+-- "The longest text is now 3,963 bytes." A readable text has exactly the bytes of its table's lines; none has more than that number, and some text
 -- has so many.
 pub record LongestText : Type 0 where
-  pub number : longestText ≡ 3931
+  pub number : longestText ≡ 3963
   pub exactly : (text : List ℕ) (ts : Table) → read text ≡ readable ts → length text ≡ textLength ts
   pub none-longer : (text : List ℕ) (ts : Table) → read text ≡ readable ts → length text ≤ longestText
   pub reached : (text : List ℕ) × (ts : Table) × (read text ≡ readable ts) × (length text ≡ longestText)
@@ -65,9 +66,9 @@ pub record TextRefused : Type 0 where
   pub within : (text : List ℕ) (k n : ℕ) → read text ≡ unreadable k n → (1 ≤ k) × (k ≤ 7) × (1 ≤ n) × (n ≤ lastLine)
   pub reached : (text : List ℕ) × (k : ℕ) × (read text ≡ unreadable k lastLine)
 
--- "Lines are read from the first, and the first faulty line decides." The lines behind the one that a refusal names play no part. Cut after any line
+-- "Lines are read from the first, and the first faulty line decides": the lines behind the one that a refusal names play no part. Cut after any line
 -- before it, the text lacks only its end, so no line before it is faulty; not so for 7, where the end frame was read.
 pub record FirstFaulty : Type 0 where
   pub behind : (text other : List ℕ) (k n : ℕ) → read text ≡ unreadable k n → take n (linesOf other) ≡ take n (linesOf text) → read other ≡ unreadable k n
-  pub before : (text other : List ℕ) (k n m : ℕ) → read text ≡ unreadable k n → k ≤ 6 → m < n → linesOf other ≡ take m (linesOf text)
-      → read other ≡ unreadable 6 (suc m)
+  pub before : (text other : List ℕ) (k n j : ℕ) → read text ≡ unreadable k n → k ≤ 6 → j < n → linesOf other ≡ take j (linesOf text)
+      → read other ≡ unreadable 6 (suc j)

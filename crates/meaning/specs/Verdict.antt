@@ -1,11 +1,11 @@
--- The verdict on a vertex under the tasks of higher priority, with a budget.
-use Prim.Native.Nat.{ℕ}
+-- The verdict on a vertex under the tasks of higher priority, and held up by those of lower priority, with a budget.
+use Prim.Native.Nat.{ℕ, _+_}
 use mathlib.Core.Option.{Option, none, some}
 use mathlib.Core.List.{List, [], _∷_, _++_, map}
 use lib.ListN.{length, getD}
 use lib.Dec.{ltb, eqb}
 use Rattle.meaning.specs.Lists.{pick, gather, orGiven}
-use Rattle.meaning.specs.Table.{Task, Table, vertexAt, taskAt, higher}
+use Rattle.meaning.specs.Table.{Task, Table, vertexAt, taskAt, higher, lower, largestMIn, unmasked}
 use Rattle.meaning.specs.Paths.{Path, load, pathsOf}
 use Rattle.meaning.specs.Groups.{count, witness, lateCount, worst, worstChoice}
 
@@ -55,8 +55,9 @@ pub record Listed : Type 0 where
 abbrev pub loadOf : Listed → ℕ → ℕ
 loadOf x t = load (x .task) (x .path) t
 
+-- kept without its masked length, so that the same jobs have the same paths
 abbrev pub listed : ℕ → Task → List Listed
-listed d k = map (λ (w : Path). record { task = k; path = w }) (pathsOf k d)
+listed d k = map (λ (w : Path). record { task = unmasked k; path = w }) (pathsOf k d)
 
 -- the top group takes all
 abbrev pub topOf : List Task → ℕ → List (List Listed)
@@ -79,16 +80,21 @@ abbrev pub countOf : Asked → ℕ → ℕ → List (List Listed) → ℕ
 countOf plain e d top = count loadOf e d top
 countOf latest e d top = lateCount loadOf e d top
 
--- a job of e ticks and deadline d under the tasks ks, with budget b: unfinished exactly if it is below C
+-- a job of e ticks, B among them, and deadline d under the tasks ks, with budget b: unfinished exactly if it is below C
 unfoldable pub walked : Asked → ℕ → List Task → ℕ → ℕ → Verdict
 unfolding load pathsOf count lateCount witness
 walked a b ks e d = let c = countOf a e d (topOf ks d) in pick (ltb b c) (unfinished b) (decided c (witness loadOf e d (topOf ks d)))
 
 -- ---- a vertex of a table
 
--- the e of the overload rule
+-- "the largest m among lower tasks, 0 if none". "It is our house rule: a task's own masked end pushing its next job (source document 001, section 7) isn't
+-- covered."
+abbrev pub B : Table → ℕ → ℕ
+B ts i = largestMIn (lower ts i)
+
+-- "a vertex's e in the overload rule becomes e + B"
 abbrev pub ownE : Table → ℕ → ℕ → ℕ
-ownE ts i v = vertexAt (taskAt ts i) v .e
+ownE ts i v = vertexAt (taskAt ts i) v .e + B ts i
 
 abbrev pub deadline : Table → ℕ → ℕ → ℕ
 deadline ts i v = vertexAt (taskAt ts i) v .d

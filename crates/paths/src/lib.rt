@@ -33,7 +33,7 @@ pub fn path_count(t: Task, d: Ticks, cap: usize) -> usize
     let start = c.start;
     let to = c.to;
     let p = c.p;
-    count_all(&start, &to, &p, t.nv, d, cap)
+    count_all(&start, &to, &p, t.nv as usize, d, cap)
 }
 
 // The complete path of place i; of length 0, with zeros alone, where there is none.
@@ -46,7 +46,7 @@ pub fn path_at(t: Task, d: Ticks, i: usize) -> Path
     let start = c.start;
     let to = c.to;
     let p = c.p;
-    path_all(&start, &to, &p, t.nv, d, PathNumber(i))
+    path_all(&start, &to, &p, t.nv as usize, d, PathNumber(i))
 }
 
 // The loads of the path of place i at t from 1 to d are row 2i of the part, each row of d cells; the rows between are unchanged.
@@ -61,5 +61,5 @@ pub fn path_rows(part: &mut [u32], t: Task, d: Ticks)
     let start = c.start;
     let to = c.to;
     let p = c.p;
-    rows_all(part, d, &e, &start, &to, &p, t.nv);
+    rows_all(part, d, &e, &start, &to, &p, t.nv as usize);
 }

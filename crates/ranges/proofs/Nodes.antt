@@ -1,5 +1,5 @@
 -- Where the row of each range lies in the stretch, and what it holds.
-use mathlib.Core.Path.{_≡_, refl, sym, ap, ap₂, _∙_}
+use mathlib.Core.Path.{_≡_, refl, sym, ap, ap₂, fun-ext, _∙_}
 use Prim.Native.Nat.{ℕ, zero, suc, _+_, _-_, _*_, _≤_, _<_}
 use native.Mathlib.Nat.{add-mul, one-mul, mul-le-mul-right}
 use native.Mathlib.Omega.{arith}
@@ -7,12 +7,13 @@ use mathlib.Core.List.{List, _++_, map, map-map}
 use lib.ListN.{length, getD, take, drop, length-drop, length-map}
 use lib.Seq.{take-take, take-append-le, take-all, drop-drop, drop-append-add, drop-append-le, getD-drop, getD-take}
 use Rattle.meaning.specs.Lists.{largest, countFrom, ticks}
-use Rattle.meaning.specs.Table.{Task}
+use Rattle.meaning.specs.Table.{Task, unmasked}
 use Rattle.meaning.specs.Paths.{Path, load, pathsOf}
 use Rattle.meaning.specs.Areas.{rowsFor}
 use Rattle.meaning.specs.Groups.{half, firstPart, secondPart, rangeLoad}
 use Rattle.meaning.specs.Verdict.{Listed, loadOf, listed}
 use Rattle.meaning.proofs.Lists.{drop-take, length-countFrom, take-map, drop-map}
+use Rattle.meaning.proofs.Masks.{load-unmasked}
 use Rattle.ranges.specs.Stretch.{stretchCells, inOrder, rangeRow, stretchOf}
 use Rattle.rows.specs.Order.{topRow, Node, top, low, high}
 use Rattle.ranges.proofs.Rows.{inOrder-two, first-length, second-length, order-length, order-row}
@@ -104,7 +105,9 @@ stretch-cell k d {first} {len} h x t l u =
 pub listed-cell : (k : Task) (d : ℕ) {first len : ℕ} → 0 < length (pathsOf k d) → Node 0 (length (pathsOf k d)) first len → (t : ℕ) → 1 ≤ t → t ≤ d
     → getD (stretchOf k d) ((2 * first + topRow len) * d + (t - 1)) 0 ≡ rangeLoad loadOf (take len (drop first (listed d k))) t
 listed-cell k d {first} {len} h x t l u =
-    let mk : Path → Listed = λ (w : Path). record { task = k; path = w } in
+    let mk : Path → Listed = λ (w : Path). record { task = unmasked k; path = w } in
+    let r = take len (drop first (pathsOf k d)) in
     stretch-cell k d h x t l u
-    ∙ sym (ap (λ (r : List Listed). rangeLoad loadOf r t) (ap (take len) (drop-map mk first (pathsOf k d)) ∙ take-map mk len (drop first (pathsOf k d)))
-    ∙ ap largest (map-map (λ (y : Listed). loadOf y t) mk (take len (drop first (pathsOf k d)))))
+    ∙ sym (ap (λ (y : List Listed). rangeLoad loadOf y t) (ap (take len) (drop-map mk first (pathsOf k d)) ∙ take-map mk len (drop first (pathsOf k d)))
+    ∙ ap largest (map-map (λ (y : Listed). loadOf y t) mk r)
+    ∙ ap (λ (f : Path → ℕ). largest (map f r)) (fun-ext (λ (w : Path). load-unmasked k w t)))

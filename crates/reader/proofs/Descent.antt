@@ -9,6 +9,7 @@ use Rattle.meaning.specs.Text as Meant
 use Rattle.meaning.specs.Text.{readable, unreadable}
 use Rattle.kinds.specs.declared.Refusal.the-variants.{WrongFrame, BytesAfterEnd}
 use Rattle.kinds.proofs.Numbers.{refusalOf}
+use Rattle.kinds.specs.declared.Ticks.{Ticks}
 use Rattle.table.specs.declared.Task.{Task}
 use Rattle.table.specs.declared.Table.{Table}
 use Rattle.table.specs.Record.{tableRecord}
@@ -31,20 +32,20 @@ linesThen AllTaken n r = r
 linesThen (StoppedBy w) n r = refusedRecord w n
 
 -- with `left` bytes from the line on
-abbrev pub frameThen : TaskOrEndLine → Table → ℕ → ℕ → (ℕ → ℕ → Reading) → Reading
-frameThen (TaskTaken v e) t line left go = go v e
+abbrev pub frameThen : TaskOrEndLine → Table → ℕ → ℕ → (ℕ → ℕ → Ticks → Reading) → Reading
+frameThen (TaskTaken v e m) t line left go = go v e m
 frameThen EndTaken t line left go = pick (eqb left endBytes) (record { status = Readable; table = t }) (refusedRecord BytesAfterEnd (line + 1))
 frameThen (FrameRefused w) t line left go = refusedRecord w line
 
 -- the text s from a task's line on, with g tasks still allowed
 unfoldable pub tasksOn : ℕ → Table → ℕ → List ℕ → Reading
-tasksOn zero t line s = frameThen (taskOrEndLine (t .n) s) t line (length s) (λ v e. refusedRecord WrongFrame line)
+tasksOn zero t line s = frameThen (taskOrEndLine (t .n) s) t line (length s) (λ v e m. refusedRecord WrongFrame line)
 tasksOn (suc g) t line s =
     frameThen (taskOrEndLine (t .n) s) t line (length s)
-    (λ v e.
-    let a = taskLines v e (drop taskBytes s) in
+    (λ v e m.
+    let a = taskLines v e m (drop (taskBytes (m .0)) s) in
     linesThen (a .outcome) (line + 1 + a .count)
-    (tasksOn g (putTask t (a .task)) (line + 1 + v + e) (drop (taskBytes + (v + e) * partBytes) s)))
+    (tasksOn g (putTask t (a .task)) (line + 1 + v + e) (drop (taskBytes (m .0) + (v + e) * partBytes) s)))
 
 abbrev pub wholeText : List ℕ → Reading
 wholeText s = tasksOn mostTasks noTable 1 s

@@ -15,6 +15,7 @@ use Rattle.meaning.specs.Text as Text
 use Rattle.meaning.specs.Text.{Line, lineFeed, linesOf, intoFirst, begun, closed, unreadable, atEnd, readFrom, read}
 use Rattle.kinds.specs.declared.Refusal.the-variants.{WrongFrame}
 use Rattle.kinds.proofs.Numbers.{refusal-of-number}
+use Rattle.kinds.specs.declared.Ticks.{Ticks}
 use Rattle.table.specs.Record.{padded, noTask, taskRecord, tableRecord}
 use Rattle.table.specs.Inner.{noTable}
 use Rattle.frames.specs.declared.TaskOrEndLine.{TaskOrEndLine}
@@ -23,7 +24,6 @@ use Rattle.lines.specs.declared.TaskLines.{TaskLines}
 use Rattle.frames.specs.Frames.{taskBytes, partBytes, endBytes, endDigits, taskOrEndLine}
 use Rattle.lines.specs.Parts.{taskLines}
 use Rattle.lines.proofs.Padded.{padded-set}
-use Rattle.rules.proofs.Within.{TaskBounds}
 use Rattle.frames.proofs.TaskOrEnd.{frameGives, task-or-end-read, task-has, end-long}
 use Rattle.lines.proofs.TaskRead.{TaskGives, whole-task, task-stopped, task-run}
 use Rattle.reader.specs.declared.Reading.{Reading}
@@ -46,7 +46,7 @@ more-left ts n (b ∷ u) h = go (eqb b lineFeed) refl
 
 abbrev EndReads : Meant.Table → ℕ → List ℕ → Type 0
 EndReads ts line t =
-    frameThen EndTaken (tableRecord ts) line (length t) (λ v e. refusedRecord WrongFrame line)
+    frameThen EndTaken (tableRecord ts) line (length t) (λ v e m. refusedRecord WrongFrame line)
     ≡ readingRecord (atEnd ts (suc line) (linesOf (drop endBytes t)))
 
 end-run : (ts : Meant.Table) (line : ℕ) (t : List ℕ) → endDigits < length t → EndReads ts line t
@@ -68,10 +68,10 @@ end-run ts line t h = go (eqb (length t) endBytes) refl
 abbrev having : List Meant.Task → Meant.Task → List Meant.Task
 having ts k = closed (begun ts k 0 0)
 
-having-some : (ts : List Meant.Task) (vs : List Meant.Vertex) (es : List Meant.Edge) → 0 < length vs
-    → having ts (Meant.task vs es) ≡ ts ++ (Meant.task vs es ∷ [])
-having-some ts [] es h = absurd (omega arith)
-having-some ts (x ∷ vs) es h = refl
+having-some : (ts : List Meant.Task) (m : ℕ) (vs : List Meant.Vertex) (es : List Meant.Edge) → 0 < length vs
+    → having ts (Meant.task m vs es) ≡ ts ++ (Meant.task m vs es ∷ [])
+having-some ts m [] es h = absurd (omega arith)
+having-some ts m (x ∷ vs) es h = refl
 
 -- the text from a task's line on is read as it means
 abbrev Going : ℕ → Type 0
@@ -79,30 +79,31 @@ Going g =
     (ts : List Meant.Task) (k : Meant.Task) (line : ℕ) (t : List ℕ) → length (having ts k) + g ≡ mostTasks
     → tasksOn g (tableRecord (having ts k)) line t ≡ readingRecord (readFrom (begun ts k 0 0) line (linesOf t))
 
-module _ (g : ℕ) (ih : Going g) (ts : List Meant.Task) (line v e : ℕ) (t : List ℕ) (count : length ts + suc g ≡ mostTasks) (m : TaskBounds v e) where
+module _ (g : ℕ) (ih : Going g) (ts : List Meant.Task) (line v e b : ℕ) (t : List ℕ) (count : length ts + suc g ≡ mostTasks) (some : 1 ≤ v) where
   abbrev behind : List ℕ
-  behind = drop ((v + e) * partBytes) (drop taskBytes t)
+  behind = drop ((v + e) * partBytes) (drop b t)
 
   one-more : (k : Meant.Task) → putTask (tableRecord ts) (taskRecord k) ≡ tableRecord (ts ++ (k ∷ []))
   one-more k =
       let ln : length (ts ++ (k ∷ [])) ≡ length ts + 1 = length-append ts (k ∷ []) in
       simp (ln, padded-set mostTasks noTask taskRecord ts k (omega arith))
 
-  with-task : (R : Text.Reading) (a : TaskLines) → TaskGives R ts (suc line) v e behind a
+  -- behind the b bytes of the task's line
+  with-task : (R : Text.Reading) (a : TaskLines) → TaskGives R ts line v e behind a
       → linesThen (a .outcome) (line + 1 + a .count)
-      (tasksOn g (putTask (tableRecord ts) (a .task)) (line + 1 + v + e) (drop (taskBytes + (v + e) * partBytes) t))
+      (tasksOn g (putTask (tableRecord ts) (a .task)) (line + 1 + v + e) (drop (b + (v + e) * partBytes) t))
       ≡ readingRecord R
   with-task R a (task-stopped w i q) =
-      let o : suc line + i ≡ line + 1 + i = omega arith in
+      let o : suc (line + i) ≡ line + 1 + i = omega arith in
       simp (q, refusal-of-number, o)
   with-task R a (whole-task k lv q) =
-      let c : having ts k ≡ ts ++ (k ∷ []) = having-some ts (k .vertices) (k .edges) (omega (arith, m .some)) in
+      let c : having ts k ≡ ts ++ (k ∷ []) = having-some ts (k .m) (k .vertices) (k .edges) (omega arith) in
       let ln : length (ts ++ (k ∷ [])) ≡ length ts + 1 = length-append ts (k ∷ []) in
-      let o : line + 1 + v + e ≡ suc line + v + e = omega arith in
-      let d : drop (taskBytes + (v + e) * partBytes) t ≡ behind = sym (drop-drop ((v + e) * partBytes) taskBytes t) in
+      let o : line + 1 + v + e ≡ suc (line + v + e) = omega arith in
+      let d : drop (b + (v + e) * partBytes) t ≡ behind = sym (drop-drop ((v + e) * partBytes) b t) in
       let s : length (having ts k) + g ≡ mostTasks = omega (arith, ap length c) in
       let u : putTask (tableRecord ts) (taskRecord k) ≡ tableRecord (having ts k) = one-more k ∙ ap tableRecord (sym c) in
-      simp (u, o, d) (ih ts k (suc line + v + e) behind s ∙ ap readingRecord (sym q))
+      simp (u, o, d) (ih ts k (suc (line + v + e)) behind s ∙ ap readingRecord (sym q))
 
 module _ (ts : List Meant.Task) (k : Meant.Task) (line : ℕ) (t : List ℕ) where
   abbrev have : List Meant.Task
@@ -111,13 +112,13 @@ module _ (ts : List Meant.Task) (k : Meant.Task) (line : ℕ) (t : List ℕ) whe
   abbrev next : TaskOrEndLine
   next = taskOrEndLine (length have) t
 
-  abbrev task : ℕ → ℕ → Text.Reading
-  task v e = readFrom (begun have (Meant.task [] []) v e) (suc line) (linesOf (drop taskBytes t))
+  abbrev task : ℕ → ℕ → ℕ → Text.Reading
+  task v e m = readFrom (begun have (Meant.task m [] []) v e) (suc line) (linesOf (drop (taskBytes m) t))
 
   abbrev ending : Text.Reading
   ending = atEnd have (suc line) (linesOf (drop endBytes t))
 
-  frame-run : (K : ℕ → ℕ → Reading) → ((v e : ℕ) → next ≡ TaskTaken v e → K v e ≡ readingRecord (task v e))
+  frame-run : (K : ℕ → ℕ → Ticks → Reading) → ((v e : ℕ) (m : Ticks) → next ≡ TaskTaken v e m → K v e m ≡ readingRecord (task v e (m .0)))
       → frameThen next (tableRecord have) line (length t) K ≡ readingRecord (readFrom (begun ts k 0 0) line (linesOf t))
   frame-run K h = go next refl ∙ ap readingRecord (sym (task-or-end-read ts k line t))
     where
@@ -125,18 +126,19 @@ module _ (ts : List Meant.Task) (k : Meant.Task) (line : ℕ) (t : List ℕ) whe
           → frameThen next (tableRecord have) line (length t) K ≡ readingRecord (frameGives next line task ending)
       go (FrameRefused w) q = simp (q, refusal-of-number)
       go EndTaken q = simp q (end-run have line t (end-long (length have) t q))
-      go (TaskTaken v e) q = simp q (h v e q)
+      go (TaskTaken v e m) q = simp q (h v e m q)
 
 tasks-run : (g : ℕ) → Going g
 unfolding tasksOn
 tasks-run zero ts k line t s =
-    frame-run ts k line t (λ v e. refusedRecord WrongFrame line) (λ v e q. absurd (omega (arith, task-has (length (having ts k)) v e t q .fits)))
+    frame-run ts k line t (λ v e m. refusedRecord WrongFrame line) (λ v e m q. absurd (omega (arith, task-has (length (having ts k)) t v e m q .fits)))
 tasks-run (suc g) ts k line t s =
     frame-run ts k line t _
-    (λ v e q.
-    let m = task-has (length (having ts k)) v e t q .bounds in
-    with-task g (λ a b c d h. tasks-run g a b c d h) (having ts k) line v e t s m (task ts k line t v e) (taskLines v e (drop taskBytes t))
-    (task-run (having ts k) (suc line) v e (drop taskBytes t) (m .v-in) (m .e-in)))
+    (λ v e m q.
+    let h = task-has (length (having ts k)) t v e m q in
+    let b = taskBytes (m .0) in
+    with-task g (λ a b c d h. tasks-run g a b c d h) (having ts k) line v e b t s (h .some) (task ts k line t v e (m .0)) (taskLines v e m (drop b t))
+    (task-run (having ts k) line v e m (drop b t) (h .some) (h .v-in) (h .e-in)))
 
 pub no-tasks : tableRecord [] ≡ noTable
 unfolding padded
@@ -144,4 +146,4 @@ no-tasks = refl
 
 pub whole : (text : List ℕ) → wholeText text ≡ readingRecord (read text)
 unfolding read
-whole text = rw (← no-tasks) (tasks-run mostTasks [] (Meant.task [] []) 1 text (omega arith))
+whole text = rw (← no-tasks) (tasks-run mostTasks [] Meant.noTask 1 text (omega arith))

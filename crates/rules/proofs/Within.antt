@@ -5,7 +5,7 @@ use native.Mathlib.Omega.{arith}
 use mathlib.Core.Bool.{Bool, true, false, _&&_}
 use lib.Dec.{leb, ltb}
 use borrow.Author.Tests.{ltb-true, leb-true}
-use Rattle.meaning.specs.Bounds.{mostVertices, mostEdges, largestE, largestD, largestP}
+use Rattle.meaning.specs.Bounds.{mostVertices, mostEdges, largestE, largestD, largestP, largestM}
 use Rattle.meaning.specs.Text.{within}
 use Rattle.rules.specs.Rules.{taskIn, vertexIn, edgeIn}
 
@@ -23,17 +23,21 @@ within-bounds low high n h =
 
 -- ---- each frame
 
-pub record TaskBounds (v e : ℕ) : Type 0 where
+pub record TaskBounds (v e least m : ℕ) : Type 0 where
   pub some : 1 ≤ v
   pub v-in : v ≤ mostVertices
   pub e-in : e ≤ mostEdges
+  pub m-from : least ≤ m
+  pub m-in : m ≤ largestM
 
-pub task-bounds : (v e : ℕ) → taskIn v e ≡ true → TaskBounds v e
+pub task-bounds : (v e least m : ℕ) → taskIn v e least m ≡ true → TaskBounds v e least m
 unfolding taskIn
-task-bounds v e h =
-    let a = both-true (within 1 mostVertices v) (leb e mostEdges) h in
+task-bounds v e least m h =
+    let o = both-true (within 1 mostVertices v && leb e mostEdges) (within least largestM m) h in
+    let a = both-true (within 1 mostVertices v) (leb e mostEdges) (o .0) in
     let b = within-bounds 1 mostVertices v (a .0) in
-    record { some = b .0; v-in = b .1; e-in = leb-true _ _ (a .1) }
+    let c = within-bounds least largestM m (o .1) in
+    record { some = b .0; v-in = b .1; e-in = leb-true _ _ (a .1); m-from = c .0; m-in = c .1 }
 
 pub record VertexBounds (e d : ℕ) : Type 0 where
   pub some-e : 1 ≤ e

@@ -2,14 +2,14 @@
 use Prim.Native.Nat.{ℕ, _+_, _*_}
 use mathlib.Core.Bool.{Bool, _&&_}
 use lib.Dec.{leb, ltb}
-use Rattle.meaning.specs.Bounds.{mostVertices, mostEdges, largestE, largestD, largestP}
+use Rattle.meaning.specs.Bounds.{mostVertices, mostEdges, largestE, largestD, largestP, largestM}
 use Rattle.meaning.specs.Text.{within}
 
 -- ---- bounds
 
--- the counts of a task's vertices and edges
-unfoldable pub taskIn : ℕ → ℕ → Bool
-taskIn v e = within 1 mostVertices v && leb e mostEdges
+-- the counts of a task's vertices and edges, and its masked length, from `least` on
+unfoldable pub taskIn : ℕ → ℕ → ℕ → ℕ → Bool
+taskIn v e least m = within 1 mostVertices v && leb e mostEdges && within least largestM m
 
 unfoldable pub vertexIn : ℕ → ℕ → Bool
 vertexIn e d = within 1 largestE e && within 1 largestD d
@@ -19,6 +19,10 @@ unfoldable pub edgeIn : ℕ → ℕ → ℕ → ℕ → Bool
 edgeIn n from to p = ltb from n && ltb to n && within 1 largestP p
 
 -- ---- orders
+
+-- m is at most its task's largest e
+abbrev pub maskCovered : ℕ → ℕ → Bool
+maskCovered m largest = leb m largest
 
 -- d of the starting vertex is at most p
 abbrev pub edgeSpaced : ℕ → ℕ → Bool

@@ -1,9 +1,9 @@
 // "Bounds: vertices 1 to 12, edges 0 to 32, e 1 to 1,000, d 1 to 200, p 1 to 1,000, and for each edge d of its starting vertex is at most p"; "its
-// edges in strictly rising order of (from, to)".
+// edges in strictly rising order of (from, to)"; "m (2 bytes, 1 to 1,000)", which "may not exceed its task's largest e".
 //
 // On numbers alone, so that whoever takes a frame, from a text or from a table, asks the same questions.
 ghost use mathlib.Core.Path.{_≡_};
-ghost use Rattle.rules.specs.Rules.{taskIn, vertexIn, edgeIn, edgeSpaced, edgePlace, leastAfter, edgeAfter};
+ghost use Rattle.rules.specs.Rules.{taskIn, vertexIn, edgeIn, maskCovered, edgeSpaced, edgePlace, leastAfter, edgeAfter};
 
 // The bounds, in the width of the numbers that are tested.
 const MOST_VERTICES: u32 = bounds::MOST_VERTICES as u32;
@@ -16,9 +16,11 @@ const LARGEST_D: u32 = bounds::LARGEST_D as u32;
 
 const LARGEST_P: u32 = bounds::LARGEST_P as u32;
 
-// The counts of a task's vertices and edges.
-pub fn task_in(v: u32, e: u32) -> bool
-    ensures { λ r. ⌜ r ≡ taskIn v e ⌝ }
+const LARGEST_M: u32 = bounds::LARGEST_M as u32;
+
+// The counts of a task's vertices and edges, and its masked length: from 1 on where its frame has one, else 0.
+pub fn task_in(v: u32, e: u32, least: u32, m: u32) -> bool
+    ensures { λ r. ⌜ r ≡ taskIn v e least m ⌝ }
 {
     if v < 1 {
         return false;
@@ -26,7 +28,13 @@ pub fn task_in(v: u32, e: u32) -> bool
     if MOST_VERTICES < v {
         return false;
     }
-    e <= MOST_EDGES
+    if MOST_EDGES < e {
+        return false;
+    }
+    if m < least {
+        return false;
+    }
+    m <= LARGEST_M
 }
 
 pub fn vertex_in(e: u32, d: u32) -> bool
@@ -58,6 +66,12 @@ pub fn edge_in(n: u32, from: u32, to: u32, p: u32) -> bool
         return false;
     }
     p <= LARGEST_P
+}
+
+pub fn mask_covered(m: u32, largest: u32) -> bool
+    ensures { λ r. ⌜ r ≡ maskCovered m largest ⌝ }
+{
+    m <= largest
 }
 
 // d of the starting vertex is at most p.

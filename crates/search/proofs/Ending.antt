@@ -10,7 +10,7 @@ use lib.Seq.{drop-cons, take-all}
 use lib.Dec.{T}
 use borrow.Author.Tests.{lt-ltb, le-ltb}
 use Rattle.meaning.specs.Lists.{orGiven}
-use Rattle.meaning.specs.Bounds.{largestE, mostHigher}
+use Rattle.meaning.specs.Bounds.{mostHigher}
 use Rattle.meaning.specs.Table as Meant
 use Rattle.meaning.specs.Paths.{Path, pathsOf}
 use Rattle.meaning.specs.Groups.{witness, worstChoice}
@@ -21,6 +21,7 @@ use Rattle.meaning.proofs.Lists.{getD-mapped}
 use Rattle.meaning.proofs.Choices.{top-full}
 use Rattle.meaning.proofs.Walks.{end-met, end-missed, walk-sees, late-walk-sees, worst-some, worst-late}
 use Rattle.ways.specs.Ways.{mostCounted}
+use Rattle.overload.specs.Rows.{light}
 use Rattle.walk.specs.declared.Ending.{Ending}
 use Rattle.walk.specs.declared.Ending.the-variants.{Meets, Misses, Unfinished}
 use Rattle.walk.specs.declared.Walked.{Walked}
@@ -89,7 +90,7 @@ chosen-paths [] d ps l h = refl
 chosen-paths (k ∷ ks) d [] l h = absurd (omega arith)
 chosen-paths (k ∷ ks) d (p ∷ ps) l h =
     let there : p < length (listed d k) = h 0 (omega arith) in
-    let put : Path → Listed = λ w. record { task = k; path = w } in
+    let put : Path → Listed = λ w. record { task = Meant.unmasked k; path = w } in
     ap (λ (c : List Listed). pathsIn (c ++ chosen (topOf ks d) ps)) (take-one (put []) p (listed d k) there)
     ∙ ap₂ {C = List Path} (λ (w : Path) (ws : List Path). w ∷ ws)
     (ap (λ (x : Listed). x .path) (getD-mapped put (put []) [] (pathsOf k d) p (omega (arith, length-map (pathsOf k d) put))))
@@ -97,7 +98,7 @@ chosen-paths (k ∷ ks) d (p ∷ ps) l h =
 
 -- ---- the walk over the stretches of ks
 
-module _ (asked : Asked) (ks : List Meant.Task) (d : ℕ) (few : Few ks d) (e b : ℕ) (o : e ≤ largestE) where
+module _ (asked : Asked) (ks : List Meant.Task) (d : ℕ) (few : Few ks d) (e b : ℕ) (o : e ≤ light) where
   abbrev a : Above
   a = aboveOf d (pathCounts ks d)
 
@@ -163,7 +164,7 @@ module _ (asked : Asked) (ks : List Meant.Task) (d : ℕ) (few : Few ks d) (e b 
         low latest = worst-late loadOf e d top
 
 -- where the latest finish is asked for, the paths at the places are the first that reach the worst
-late-places : (ks : List Meant.Task) (d : ℕ) (few : Few ks d) (e b : ℕ) (o : e ≤ largestE) (r : Walked) → r ≡ ran latest ks d few e b o
+late-places : (ks : List Meant.Task) (d : ℕ) (few : Few ks d) (e b : ℕ) (o : e ≤ light) (r : Walked) → r ≡ ran latest ks d few e b o
     → (n : ℕ) → r .ending ≡ Meets n → AtPaths (topOf ks d) (r .places) × (meetsOf latest ks e d ≡ pathsAt ks d (r .places))
 late-places ks d few e b o r q n m =
     let c = worst-some loadOf e d (topOf ks d) (top-full d ks (few .sound)) in
@@ -171,7 +172,7 @@ late-places ks d few e b o r q n m =
     let same = chosen-paths ks d (r .places) (omega (arith, few .seven, places-are latest ks d few e b o r q)) (p .1) in
     (p .1, ap (λ (x : Option (List Listed)). pathsIn (orGiven [] x)) (c .1) ∙ ap pathsIn (p .0) ∙ same)
 
-module _ (asked : Asked) (ks : List Meant.Task) (d : ℕ) (few : Few ks d) (e b : ℕ) (o : e ≤ largestE) (r : Walked) (q : r ≡ ran asked ks d few e b o) where
+module _ (asked : Asked) (ks : List Meant.Task) (d : ℕ) (few : Few ks d) (e b : ℕ) (o : e ≤ light) (r : Walked) (q : r ≡ ran asked ks d few e b o) where
   abbrev ws : List Path
   ws = pathsAt ks d (r .places)
 

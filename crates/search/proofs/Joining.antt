@@ -7,7 +7,7 @@ use mathlib.Core.List.{List, [], _∷_, _++_}
 use lib.ListN.{length, take, drop, getD, length-append, length-map, List·getD-append}
 use lib.Seq.{getD-append-add, getD-take, length-take-le, ext-getD}
 use Rattle.meaning.specs.Lists.{gather}
-use Rattle.meaning.specs.Bounds.{largestE, mostHigher}
+use Rattle.meaning.specs.Bounds.{mostHigher}
 use Rattle.meaning.specs.Table as Meant
 use Rattle.meaning.specs.Table.{noTask}
 use Rattle.meaning.specs.Paths.{pathsOf}
@@ -22,6 +22,7 @@ use Rattle.ranges.proofs.CellBounds.{stretch-length, cell-bound}
 use Rattle.ranges.proofs.Nodes.{listed-cell}
 use Rattle.ranges.proofs.RowsRise.{row-rises}
 use Rattle.rows.specs.Ranges.{range, rowStart}
+use Rattle.overload.specs.Rows.{light}
 use Rattle.walk.specs.Lent.{Walkable}
 use Rattle.walk.specs.Told.{sizes, RowsHold}
 use Rattle.areas.specs.declared.above.Above.{Above}
@@ -104,7 +105,7 @@ module _ (ks : List Meant.Task) (d : ℕ) (few : Few ks d) where
       let b : j < length ks = omega arith in
       getD-take (length ks) (a .counts) j 0 b ∙ sym (getD-mapped length 0 [] Gs j (omega (arith, group-many)) ∙ group-length j b))
 
-  pub walkable : (e : ℕ) → e ≤ largestE → Walkable (length ks) d e (a .roots) (a .counts) work
+  pub walkable : (e : ℕ) → e ≤ light → Walkable (length ks) d e (a .roots) (a .counts) work
   walkable e o =
       record {
         stretches = record {
@@ -115,7 +116,7 @@ module _ (ks : List Meant.Task) (d : ℕ) (few : Few ks d) where
           paths = λ j m. let p = at ks d few j m in (p .some, p .few);
           within = λ j m. omega (arith, at ks d few j m .within, need-is ks d few);
         };
-        own = omega arith;
+        own = o;
         rise = λ j q f m x u v.
             rw (cell-at j q f m x u (omega arith), cell-at j q f m x (suc u) v)
             (row-rises (task j) d (some-path j q) (subst (λ (n : ℕ). Node 0 n f m) (at ks d few j q .paths) x) u v);

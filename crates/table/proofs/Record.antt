@@ -46,7 +46,7 @@ unpadded {X} {Y} f g h n z xs = ap (λ (k : ℕ). map g (take k (padded n z (map
 
 pub task-of-record : (k : Meant.Task) → taskOf (taskRecord k) ≡ k
 task-of-record k =
-    ap₂ Meant.task
+    ap₂ (Meant.task (k .m))
     (unpadded vertexRecord vertexOf (λ x. refl) mostVertices noVertex (k .vertices)) (unpadded edgeRecord edgeOf (λ x. refl) mostEdges noEdge (k .edges))
 
 pub table-of-record : (ts : Meant.Table) → tableOf (tableRecord ts) ≡ ts

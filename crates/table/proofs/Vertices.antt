@@ -7,21 +7,21 @@ use lib.ListN.{length, getD, length-map}
 use Rattle.meaning.specs.Bounds.{mostVertices}
 use Rattle.meaning.specs.Table as Meant
 use Rattle.meaning.specs.Table.{noVertex, taskAt, vertexAt}
-use Rattle.meaning.specs.Verdict.{ownE, deadline}
+use Rattle.meaning.specs.Verdict.{deadline}
 use Rattle.meaning.specs.Sound.{SoundVertex}
 use Rattle.meaning.proofs.Lists.{mem-getD, getD-mapped}
 use Rattle.table.specs.declared.Vertex.{Vertex}
 use Rattle.table.specs.declared.Task.{Task}
 use Rattle.table.specs.declared.Table.{Table}
 use Rattle.table.specs.Record.{taskCells, vertexRecord}
-use Rattle.table.specs.Inner.{tableOf, Held}
+use Rattle.table.specs.Inner.{ticks, tableOf, Held}
 use Rattle.table.specs.Record as Blank
 use Rattle.table.proofs.Record.{getD-padded, length-padded}
 use Rattle.table.proofs.Records.{held-task, held-sound}
 
 -- what is read where there is no task
 abbrev blankTask : Task
-blankTask = taskCells 0 0 [] []
+blankTask = taskCells (ticks 0) 0 0 [] []
 
 abbrev pub ownTask : Table → ℕ → Task
 ownTask t i = getD (t .tasks) i blankTask
@@ -58,5 +58,5 @@ module _ (t : Table) (k : Held t) (i : ℕ) (l : i < t .n) where
     pub job-d : ownVertex t i v .d .0 ≡ deadline ts i v
     job-d = ap (λ (x : Vertex). x .d .0) job-is
 
-    pub job-e : ownVertex t i v .e .0 ≡ ownE ts i v
+    pub job-e : ownVertex t i v .e .0 ≡ vertexAt (taskAt ts i) v .e
     job-e = ap (λ (x : Vertex). x .e .0) job-is

@@ -46,7 +46,11 @@ abbrev pub edgeOf : Edge → Meant.Edge
 edgeOf x = Meant.edge (x .from .0) (x .to .0) (x .p .0)
 
 abbrev pub taskOf : Task → Meant.Task
-taskOf k = Meant.task (map vertexOf (take (k .nv) (k .vertices))) (map edgeOf (take (k .ne) (k .edges)))
+taskOf k = Meant.task (k .m .0) (map vertexOf (take (k .nv) (k .vertices))) (map edgeOf (take (k .ne) (k .edges)))
+
+-- the largest e of the first n
+unfoldable pub largestOf : ℕ → List Vertex → ℕ
+largestOf n vs = Meant.largestEIn (map vertexOf (take n vs))
 
 abbrev pub tableOf : Table → Meant.Table
 tableOf t = map taskOf (take (t .n) (t .tasks))

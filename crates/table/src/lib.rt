@@ -6,8 +6,10 @@ use bounds::MOST_VERTICES;
 use kinds::Ticks;
 use kinds::VertexNumber;
 ghost use mathlib.Core.Path.{_≡_};
+ghost use Prim.Native.Nat.{_≤_};
+ghost use Rattle.meaning.specs.Bounds.{mostVertices};
 ghost use Rattle.table.specs.Record.{taskCells, noVertex, noEdge, noTask};
-ghost use Rattle.table.specs.Inner.{noTable};
+ghost use Rattle.table.specs.Inner.{largestOf, noTable};
 
 pub struct Vertex {
     pub e: Ticks,
@@ -20,10 +22,11 @@ pub struct Edge {
     pub p: Ticks,
 }
 
-// nv vertices and ne edges; only `task_of` makes one.
+// nv vertices and ne edges, with the masked length m; only `task_of` makes one.
 pub struct Task {
-    pub nv: usize,
-    pub ne: usize,
+    pub m: Ticks,
+    pub nv: u16,
+    pub ne: u16,
     pub vertices: [Vertex; MOST_VERTICES],
     pub edges: [Edge; MOST_EDGES],
 }
@@ -55,14 +58,16 @@ pub fn no_edge() -> Edge
 
 // A task from its parts.
 pub fn task_of(
-    nv: usize,
-    ne: usize,
+    m: Ticks,
+    nv: u16,
+    ne: u16,
     vertices: [Vertex; MOST_VERTICES],
     edges: [Edge; MOST_EDGES],
 ) -> Task
-    ensures { λ r. ⌜ r ≡ taskCells nv ne vertices edges ⌝ }
+    ensures { λ r. ⌜ r ≡ taskCells m nv ne vertices edges ⌝ }
 {
     Task {
+        m,
         nv,
         ne,
         vertices,
@@ -75,7 +80,22 @@ pub fn no_task() -> Task
 {
     let x = no_vertex();
     let y = no_edge();
-    task_of(0, 0, [x; MOST_VERTICES], [y; MOST_EDGES])
+    task_of(Ticks(0), 0, 0, [x; MOST_VERTICES], [y; MOST_EDGES])
+}
+
+// The largest e of the first n.
+pub fn largest_e(vertices: [Vertex; MOST_VERTICES], n: usize) -> Ticks
+    requires { ⌜ n ≤ mostVertices ⌝ }
+    ensures { λ r. ⌜ r .0 ≡ largestOf n vertices ⌝ }
+{
+    let mut largest = Ticks(0);
+    let mut i: usize = 0;
+    while i < n {
+        let x = vertices[i];
+        largest = kinds::longer(largest, x.e);
+        i += 1;
+    }
+    largest
 }
 
 pub fn no_table() -> Table

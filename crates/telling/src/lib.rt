@@ -2,6 +2,7 @@
 // table may go out. Where it is asked for, after a meets the releases that make it so late.
 mod ending;
 mod line;
+mod masks;
 mod numbers;
 mod print;
 mod refusals;

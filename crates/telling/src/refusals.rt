@@ -49,7 +49,7 @@ fn say_row(at: RefusedAt) {
         ),
         Refusal::OutOfBounds => say_at_line(
             at.place,
-            b"a number is outside its bounds, or an edge names a vertex that the task hasn't",
+            b"a number is outside its bounds, an edge names a vertex that the task hasn't, or the task's masked length exceeds its largest e",
         ),
         Refusal::DeadlineOverSeparation => say_at_line(
             at.place,

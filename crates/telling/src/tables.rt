@@ -1,5 +1,6 @@
 // A readable table: a line for each vertex, "in rising order of task and then vertex". "Lends 8,192 work cells and 1,407 witness cells, and uses budget
 // 100,000."
+use crate::masks::masked_below;
 use crate::print::say_with;
 use crate::verdicts::Worst;
 use crate::verdicts::say_verdict;
@@ -81,7 +82,8 @@ fn say_vertex(
     let verdict = judge(text, task, vertex, DESK_BUDGET, work, witness);
     let worst = worst_of(text, task, vertex, verdict, work, witness);
     say_name(task, vertex);
-    say_verdict(table, job, verdict, worst, why, witness);
+    let masked = masked_below(table, task);
+    say_verdict(table, job, masked, verdict, worst, why, witness);
     verdict
 }
 

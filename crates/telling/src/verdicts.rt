@@ -1,4 +1,6 @@
 // A vertex's line, after a miss what shows it, and where it is asked for after a meets what makes it so late.
+use crate::masks::Masked;
+use crate::masks::say_masked;
 use crate::numbers::excess;
 use crate::numbers::sum;
 use crate::print::end_line;
@@ -40,15 +42,25 @@ fn say_cause(table: Table, cells: &[u16]) {
 }
 
 // The figure beside a meets: how late at worst, and how much earlier than the deadline that is.
-fn say_worst(d: Ticks, groups: u32, finish: u32) {
+fn say_worst(d: Ticks, masked: Masked, groups: u32, finish: u32) {
     let spare = excess(d.0 as u32, finish);
+    say_with(b", at worst after #0", [finish, 0, 0, 0]);
+    say_masked(masked);
     say_with(
-        b", at worst after #0, #1 to spare (#2 group%2 examined)",
-        [finish, spare, groups, 0],
+        b", #0 to spare (#1 group%1 examined)",
+        [spare, groups, 0, 0],
     );
 }
 
-fn say_meets(table: Table, d: Ticks, groups: u32, finish: u32, why: bool, cells: &[u16]) {
+fn say_meets(
+    table: Table,
+    d: Ticks,
+    masked: Masked,
+    groups: u32,
+    finish: u32,
+    why: bool,
+    cells: &[u16],
+) {
     say_with(b"meets its deadline of #0 tick%0", [d.0 as u32, 0, 0, 0]);
     if finish == 0 {
         say_with(
@@ -57,7 +69,7 @@ fn say_meets(table: Table, d: Ticks, groups: u32, finish: u32, why: bool, cells:
         );
         return;
     }
-    say_worst(d, groups, finish);
+    say_worst(d, masked, groups, finish);
     if why {
         say_cause(table, cells);
         return;
@@ -65,30 +77,42 @@ fn say_meets(table: Table, d: Ticks, groups: u32, finish: u32, why: bool, cells:
     end_line();
 }
 
-// The work due by the deadline: the vertex's own e and the paths' loads.
-fn say_due(job: Vertex, loads: u32) {
+// The work due by the deadline: the vertex's own e, a lower task's masked time, and the paths' loads.
+fn say_due(job: Vertex, masked: Masked, loads: u32) {
     let own = job.e.0 as u32;
-    let due = sum(own, loads);
+    let due = sum(sum(own, masked.ticks), loads);
     let over = excess(due, job.d.0 as u32);
+    say_with(b"    #0 tick%0 of work", [due, 0, 0, 0]);
+    say_masked(masked);
     say_with(
-        b"    #0 tick%0 of work are due by the deadline, #1 of them its own: #2 tick%2 too many\n",
-        [due, own, over, 0],
+        b" are due by the deadline, #0 of them its own: #1 tick%1 too many\n",
+        [own, over, 0, 0],
     );
 }
 
+// Masked time is another task's help.
+fn say_alone(masked: Masked) {
+    if masked.ticks == 0 {
+        say(b" with no other task's help:\n");
+        return;
+    }
+    say(b", with nothing above it:\n");
+}
+
 // Task 0 has no higher tasks, and a miss of its vertices no cells.
-fn say_misses(table: Table, job: Vertex, groups: u32, cells: &[u16]) {
+fn say_misses(table: Table, job: Vertex, masked: Masked, groups: u32, cells: &[u16]) {
     say_with(
         b"MISSES its deadline of #0 tick%0 (#1 group%1 examined)",
         [job.d.0 as u32, groups, 0, 0],
     );
     if cells.len() == 0 {
-        say(b" with no other task's help:\n");
-        say_due(job, 0);
+        say_alone(masked);
+        say_due(job, masked, 0);
         return;
     }
     say(b", shown by these releases:\n");
-    say_due(job, say_releases(table, cells));
+    let loads = say_releases(table, cells);
+    say_due(job, masked, loads);
 }
 
 fn say_unfinished(budget: u32) {
@@ -106,6 +130,7 @@ fn say_refused(at: RefusedAt) {
 pub(crate) fn say_verdict(
     table: Table,
     job: Vertex,
+    masked: Masked,
     verdict: Verdict,
     worst: Worst,
     why: bool,
@@ -115,11 +140,19 @@ pub(crate) fn say_verdict(
         // Neither call writes more cells than there are.
         Verdict::Meets(groups) => {
             let n = least(worst.cells as usize, witness.len());
-            say_meets(table, job.d, groups, worst.finish, why, &witness[..n]);
+            say_meets(
+                table,
+                job.d,
+                masked,
+                groups,
+                worst.finish,
+                why,
+                &witness[..n],
+            );
         }
         Verdict::Misses(groups, cells) => {
             let n = least(cells as usize, witness.len());
-            say_misses(table, job, groups, &witness[..n]);
+            say_misses(table, job, masked, groups, &witness[..n]);
         }
         Verdict::Unfinished(budget) => say_unfinished(budget),
         Verdict::Refused(at) => say_refused(at),

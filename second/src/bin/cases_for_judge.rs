@@ -1,6 +1,6 @@
 //! Writes the cases that the judge is checked with: a sequence as `second cases` reads it.
 //!
-//! The bench examples, every refusal, and random tables with budgets and areas around what they need. The sequence is the same from run to run.
+//! The bench examples, masked lengths, every refusal, and random tables with budgets and areas around what they need. The sequence is the same from run to run.
 
 #![forbid(unsafe_code)]
 
@@ -21,6 +21,7 @@ const RANDOM_VERTICES: [usize; 3] = [3, 8, 8];
 fn main() -> io::Result<()> {
     let mut vertices = Vertices::of(VERTEX);
     vertices.bench();
+    vertices.masked();
     vertices.many_paths();
     vertices.texts();
     vertices.numbers();

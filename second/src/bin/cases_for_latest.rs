@@ -1,6 +1,6 @@
 //! Writes the cases that the worst finish is checked with: a sequence as `second cases` reads it.
 //!
-//! The bench examples, every refusal, groups passed over and ties, nothing above, and random tables with budgets and areas around what they need. The sequence is the same from run to run.
+//! The bench examples, masked lengths, every refusal, groups passed over and ties, nothing above, and random tables with budgets and areas around what they need. The sequence is the same from run to run.
 
 #![forbid(unsafe_code)]
 
@@ -25,6 +25,7 @@ const BUDGET: u32 = 100_000;
 fn main() -> io::Result<()> {
     let mut vertices = Vertices::of(FINISH);
     vertices.bench();
+    vertices.masked();
     vertices.many_paths();
     vertices.texts();
     vertices.numbers();

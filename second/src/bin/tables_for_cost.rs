@@ -2,13 +2,13 @@
 //!
 //! The first argument is a family: `small` tables like R1, `paper` tables like those of source document 001, section 8.1, or `heavy` ones,
 //! with many groups. With `few`, the bench examples and some tables of each family. A second argument gives another seed. With `latest` before
-//! them, each table is asked how late every vertex's latest is.
+//! them, each table is asked how late every vertex's latest is. None has a masked length, so that costs can be compared with earlier ones.
 
 #![forbid(unsafe_code)]
 
 mod made;
 
-use made::{bench, random_task, self_edge, task, text, Random, Size};
+use made::{bench, random_unmasked_task, self_edge, task, text, Random, Size};
 use second::bounds::{BUDGET, D, MOST_WORK_CELLS, WITNESS_CELLS};
 use second::case::{FINISHES, UNMARKED};
 use second::judge::{judge, Verdict};
@@ -81,7 +81,7 @@ fn small(random: &mut Random) -> String {
     let mut tasks = Vec::new();
     for _ in 0..between(random, 1, 3) {
         if random.below(2) == 0 {
-            tasks.push(random_task(random, &SMALL));
+            tasks.push(random_unmasked_task(random, &SMALL));
             continue;
         }
         let [e, d] = [between(random, 1, 2), between(random, 5, 7)];

@@ -1,6 +1,6 @@
 //! Writes the texts that the lister is checked with: a sequence as `second cases` reads it.
 //!
-//! The bench examples, then random tables whose tasks have from one path to far more than are allowed. The sequence is the same from run to run.
+//! The bench examples, R2 with a masked length, then random tables whose tasks have from one path to far more than are allowed. The sequence is the same from run to run.
 
 #![forbid(unsafe_code)]
 
@@ -44,10 +44,11 @@ const SIZES: [Size; 5] = [
     },
 ];
 
-/// Writes the bench examples, R11's unreadable texts among them, and then tables of each size in turn.
+/// Writes the bench examples, R11's unreadable texts among them, R2 with a masked length, and then tables of each size in turn.
 fn main() -> io::Result<()> {
     let mut random = Random(20_261_115);
     let mut texts: Vec<_> = bench::texts().into_iter().map(String::into_bytes).collect();
+    texts.extend(bench::masked_texts().map(String::into_bytes));
     let sizes = SIZES.iter().cycle().take(TABLES);
     texts.extend(sizes.map(|size| table(&mut random, size)));
     write_sequence(LIST, texts)

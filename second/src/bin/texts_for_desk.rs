@@ -1,13 +1,14 @@
 //! Writes the texts that the desk is checked with: a sequence as `second cases` reads it.
 //!
-//! The bench examples, every refusal of a text, inputs around the longest, and random texts, whole and damaged. The sequence is the
-//! same from run to run. A first argument gives the random part another seed; with a second one, only so many random texts are written.
+//! The bench examples, R2 with a masked length, every refusal of a text, inputs around the longest, and random texts, whole and damaged,
+//! most with a masked length. The sequence is the same from run to run. A first argument gives the random part another seed; with a
+//! second one, only so many random texts are written.
 
 #![forbid(unsafe_code)]
 
 mod made;
 
-use made::{bench, damage, random_task, refusals, task, text, Random, Size};
+use made::{bench, damage, damage_m, masked_task, random_task, refusals, task, text, Random, Size};
 use second::bounds::INPUT_BYTES;
 use second::case::DESK;
 use second::sequence::write_sequence;
@@ -58,6 +59,7 @@ fn main() -> io::Result<()> {
 /// Every text.
 fn all_texts(seed: u64) -> Vec<Vec<u8>> {
     let mut texts: Vec<_> = bench::texts().into_iter().map(String::into_bytes).collect();
+    texts.extend(bench::masked_texts().map(String::into_bytes));
     refusals::add(&mut texts);
     long_inputs(&mut texts);
     for (n, last_e) in [(11, 1), (12, 1), (11, 2), (12, 2)] {
@@ -96,7 +98,7 @@ fn random_texts(seed: u64, count: u64) -> Vec<Vec<u8>> {
     (0..count).map(|_| random_text(&mut random)).collect()
 }
 
-/// A random table's text, whole or damaged in one to three ways.
+/// A random table's text, whole or damaged in up to four ways.
 fn random_text(random: &mut Random) -> Vec<u8> {
     if random.below(ONE_CROWDED_OF) == 0 {
         return crowded(random).into_bytes();
@@ -114,6 +116,9 @@ fn random_text(random: &mut Random) -> Vec<u8> {
         text = with_a_line_moved(random, &text);
     }
     let mut text = text.into_bytes();
+    if random.below(4) == 0 {
+        damage_m(random, &mut text);
+    }
     for _ in 0..random.below(3) {
         if !text.is_empty() {
             damage(random, &mut text);
@@ -136,15 +141,16 @@ fn with_a_line_moved(random: &mut Random, text: &str) -> String {
     lines.concat()
 }
 
-/// A random table's text whose last vertex meets after many groups; at times one more path makes it miss, or leave groups out.
+/// A random table's text with a vertex that meets after many groups; at times one more path makes it miss, or leave groups out. It is
+/// the last one, or there is a task below it that holds it up.
 ///
-/// The first tasks have alike vertices. Let x be the judged e and one of each of them. The task below them has three paths, and x with
-/// each of them leaves a tick free: with (0), of a, tick d; with (1,2), of 1 and after p of b more, tick p; with (2), of b, tick d. But x
-/// with (0) and (1,2) in one range leaves none, so that all groups of the first tasks' paths are examined with them.
+/// The first tasks have alike vertices. Let x be the judged e, the masked time and one of each of them. The task below them has three
+/// paths, and x with each of them leaves a tick free: with (0), of a, tick d; with (1,2), of 1 and after p of b more, tick p; with (2),
+/// of b, tick d. But x with (0) and (1,2) in one range leaves none, so that all groups of the first tasks' paths are examined with them.
 fn crowded(random: &mut Random) -> String {
     let mut tasks = Vec::new();
-    let mut x = 1 + random.below(4) as u32;
-    let e = x;
+    let (e, masked) = (1 + random.below(4) as u32, random.below(3) as u32);
+    let mut x = e + masked;
     for _ in 0..random.below(6) {
         let alike = 1 + random.below(2) as u32;
         x += alike;
@@ -161,5 +167,8 @@ fn crowded(random: &mut Random) -> String {
     let p = x + 1 + random.below(a as usize - 1) as u32;
     tasks.push(task(&[(a, 20), (1, p), (b, 20)], &[(1, 2, p)]));
     tasks.push(task(&[(e, x + b)], &[]));
+    if masked > 0 {
+        tasks.push(masked_task(masked, &[(masked, 50)], &[]));
+    }
     text(&tasks)
 }

@@ -1,12 +1,12 @@
 //! Writes the texts that the reader is checked with: a sequence as `second cases` reads it.
 //!
-//! Every refusal of a text, each bound and one past it, and random texts, whole and damaged. The sequence is the same from run to run.
+//! Every refusal of a text, each bound and one past it, and random texts, whole and damaged, most with a masked length. The sequence is the same from run to run.
 
 #![forbid(unsafe_code)]
 
 mod made;
 
-use made::{damage, random_task, refusals, Random, Size};
+use made::{damage, damage_m, random_task, refusals, Random, Size};
 use second::case::CHECK;
 use second::sequence::write_sequence;
 use std::io;
@@ -30,7 +30,7 @@ fn main() -> io::Result<()> {
     write_sequence(CHECK, texts)
 }
 
-/// Random tables, each whole and damaged in one way.
+/// Random tables, each whole and damaged in one way, at times in its masked lengths.
 fn random(texts: &mut Vec<Vec<u8>>) {
     let mut random = Random(20_261_115);
     for _ in 0..RANDOM_TABLES {
@@ -39,7 +39,10 @@ fn random(texts: &mut Vec<Vec<u8>>) {
             .collect();
         let mut text = (tasks + "00\n").into_bytes();
         texts.push(text.clone());
-        damage(&mut random, &mut text);
+        match random.below(4) {
+            0 => damage_m(&mut random, &mut text),
+            _ => damage(&mut random, &mut text),
+        }
         texts.push(text);
     }
 }

@@ -1,13 +1,13 @@
 //! Writes the texts that the words for people are checked with, each to a file of its own in the folder that the argument names.
 //!
-//! The bench examples, faulty lines of every kind, each verdict, and random tables. The texts are the same from run to run.
+//! The bench examples, faulty lines of every kind, each verdict, masked time, and random tables, most with a masked length. The texts are the same from run to run.
 
 #![forbid(unsafe_code)]
 
 mod made;
 
 use made::refusals::{with, LINES};
-use made::{bench, random_task, self_edge, task, text, Random, Size};
+use made::{bench, masked_task, random_task, self_edge, task, text, Random, Size};
 use second::bounds::INPUT_BYTES;
 use std::path::PathBuf;
 use std::{env, fs, io};
@@ -41,6 +41,7 @@ fn texts() -> Vec<Vec<u8>> {
     rules(&mut texts);
     ends(&mut texts);
     verdicts(&mut texts);
+    masked(&mut texts);
     random(&mut texts);
     texts
 }
@@ -81,6 +82,10 @@ fn rules(texts: &mut Vec<Vec<u8>>) {
         (4, "0300010004\n"),
         (5, "0300010006\n"),
         (5, "0300000005\n"),
+        (1, "0402020000\n"),
+        (1, "0402020003\n"),
+        (1, "04020203e9\n"),
+        (1, "04020202\n"),
     ] {
         texts.push(with(line, faulty));
     }
@@ -120,6 +125,25 @@ fn verdicts(texts: &mut Vec<Vec<u8>>) {
         cells,
         vec![task(&[(1, 1), (2, 1), (3, 1)], &[]), task(&[(1, 1)], &[])],
         longest,
+        not_found,
+    ];
+    texts.extend(tables.map(|tasks| text(&tasks).into_bytes()));
+}
+
+/// Masked time: R2 with it; a miss with nothing above, by one tick and by more; the first of the lower tasks that mask longest; and a worst finish that isn't found.
+fn masked(texts: &mut Vec<Vec<u8>>) {
+    texts.extend(bench::masked_texts().map(String::into_bytes));
+    let masking = |m: u32| masked_task(m, &[(m, 50)], &[]);
+    let late = || task(&[(2, 2), (3, 2)], &[]);
+    let own = masked_task(3, &[(3, 2)], &[]);
+    let mut not_found = vec![task(&[(1, 9); 12], &[]); 4];
+    not_found.push(task(&[(3, 9), (1, 7), (4, 9)], &[(1, 2, 7)]));
+    not_found.extend([task(&[(1, 11)], &[]), masked_task(1, &[(1, 1)], &[])]);
+    let tables = [
+        vec![late(), masking(1)],
+        vec![late(), masking(11)],
+        vec![own, task(&[(4, 9)], &[])],
+        [1, 2, 2, 1, 3, 3].map(masking).into(),
         not_found,
     ];
     texts.extend(tables.map(|tasks| text(&tasks).into_bytes()));

@@ -1,4 +1,4 @@
-//! Document 01's definitions and wish 1's finish, tried out in full: slow, and sharing nothing with the program.
+//! Document 01's definitions, wish 1's finish and wish 3's masked time, tried out in full: slow, and sharing nothing with the program.
 
 use super::Task;
 
@@ -97,13 +97,30 @@ pub fn count_paths(task: &Task, d: u32) -> u128 {
         .fold(0, |sum, &n| sum.saturating_add(n))
 }
 
-/// Do e and the loads exceed t at every t?
-pub fn overload(e: u32, loads: &[&[u32]], d: u32) -> bool {
-    (1..=d).all(|t| e + loads.iter().map(|row| row[t as usize - 1]).sum::<u32>() > t)
+/// B of a task's vertices: the largest m among the tasks of lower priority, 0 if there are none.
+pub fn masked_time(tasks: &[Task], number: usize) -> u32 {
+    let mut largest = 0;
+    for (other, task) in tasks.iter().enumerate() {
+        if other > number && task.m > largest {
+            largest = task.m;
+        }
+    }
+    largest
+}
+
+/// What the overload rule takes for a vertex's e: e + B.
+pub fn e_plus_b(tasks: &[Task], number: usize, vertex: usize) -> u32 {
+    tasks[number].vertices[vertex].0 + masked_time(tasks, number)
+}
+
+/// Do e + B and the loads exceed t at every t?
+pub fn overload(e_plus_b: u32, loads: &[&[u32]], d: u32) -> bool {
+    let load = |t: u32| loads.iter().map(|row| row[t as usize - 1]).sum::<u32>();
+    (1..=d).all(|t| e_plus_b + load(t) > t)
 }
 
 /// The overloading choice that is least in path order, as places in the lists of loads.
-pub fn least_overloading(e: u32, d: u32, higher: &[Vec<Vec<u32>>]) -> Option<Vec<usize>> {
+pub fn least_overloading(e_plus_b: u32, d: u32, higher: &[Vec<Vec<u32>>]) -> Option<Vec<usize>> {
     let mut choice = vec![0; higher.len()];
     loop {
         let rows: Vec<&[u32]> = higher
@@ -111,7 +128,7 @@ pub fn least_overloading(e: u32, d: u32, higher: &[Vec<Vec<u32>>]) -> Option<Vec
             .zip(&choice)
             .map(|(rows, &n)| &rows[n][..])
             .collect();
-        if overload(e, &rows, d) {
+        if overload(e_plus_b, &rows, d) {
             return Some(choice);
         }
         // The next choice in order: count up like a number whose last digit is the last task's.
@@ -123,15 +140,15 @@ pub fn least_overloading(e: u32, d: u32, higher: &[Vec<Vec<u32>>]) -> Option<Vec
     }
 }
 
-/// The first t from 1 to d at which e and the loads are at most t; none if they overload.
-pub fn finish(e: u32, loads: &[u32], d: u32) -> Option<u32> {
-    (1..=d).find(|&t| e + loads[t as usize - 1] <= t)
+/// The first t from 1 to d at which e + B and the loads are at most t; none if they overload.
+pub fn finish(e_plus_b: u32, loads: &[u32], d: u32) -> Option<u32> {
+    (1..=d).find(|&t| e_plus_b + loads[t as usize - 1] <= t)
 }
 
 /// The largest finish over all choices of one path from each task; none if some choice overloads.
 ///
 /// More load never finishes earlier, so of the sums so far only those matter that no other reaches at every tick.
-pub fn worst_finish(e: u32, d: u32, higher: &[Vec<Vec<u32>>]) -> Option<u32> {
+pub fn worst_finish(e_plus_b: u32, d: u32, higher: &[Vec<Vec<u32>>]) -> Option<u32> {
     let mut sums = vec![vec![0; d as usize]];
     for rows in higher {
         let all = sums
@@ -139,21 +156,21 @@ pub fn worst_finish(e: u32, d: u32, higher: &[Vec<Vec<u32>>]) -> Option<u32> {
             .flat_map(|sum| rows.iter().map(|row| add(sum, row)));
         sums = undominated(all.collect());
     }
-    let finishes: Option<Vec<u32>> = sums.iter().map(|sum| finish(e, sum, d)).collect();
+    let finishes: Option<Vec<u32>> = sums.iter().map(|sum| finish(e_plus_b, sum, d)).collect();
     finishes?.into_iter().max()
 }
 
 /// The first choice in path order that reaches the largest finish, as places in the lists of loads; none if some choice overloads.
 ///
 /// Task by task, the first path with which some choice of the others is as late.
-pub fn first_latest(e: u32, d: u32, higher: &[Vec<Vec<u32>>]) -> Option<Vec<usize>> {
-    let worst = worst_finish(e, d, higher)?;
+pub fn first_latest(e_plus_b: u32, d: u32, higher: &[Vec<Vec<u32>>]) -> Option<Vec<usize>> {
+    let worst = worst_finish(e_plus_b, d, higher)?;
     let mut left = higher.to_vec();
     let mut choice = Vec::new();
     for (task, rows) in higher.iter().enumerate() {
         let mut is_latest = |row: &Vec<u32>| {
             left[task] = vec![row.clone()];
-            worst_finish(e, d, &left) == Some(worst)
+            worst_finish(e_plus_b, d, &left) == Some(worst)
         };
         choice.push(rows.iter().position(&mut is_latest)?);
     }
@@ -180,10 +197,10 @@ fn undominated(mut rows: Vec<Vec<u32>>) -> Vec<Vec<u32>> {
 }
 
 /// C by its definition: the groups all of whose parents overload, not after the witness.
-pub fn groups_to_examine(e: u32, d: u32, higher: &[Vec<Vec<u32>>]) -> u32 {
+pub fn groups_to_examine(e_plus_b: u32, d: u32, higher: &[Vec<Vec<u32>>]) -> u32 {
     let top = higher.iter().map(|rows| (0, rows.len())).collect();
     let mut groups = Groups {
-        e,
+        e_plus_b,
         d,
         higher,
         count: 0,
@@ -195,7 +212,7 @@ pub fn groups_to_examine(e: u32, d: u32, higher: &[Vec<Vec<u32>>]) -> u32 {
 
 /// All groups in the walk's order, of which some are counted.
 struct Groups<'a> {
-    e: u32,
+    e_plus_b: u32,
     d: u32,
     higher: &'a [Vec<Vec<u32>>],
     count: u32,
@@ -233,6 +250,6 @@ impl Groups<'_> {
         };
         let ranges: Vec<Vec<u32>> = self.higher.iter().zip(group).map(largest).collect();
         let rows: Vec<&[u32]> = ranges.iter().map(|row| &row[..]).collect();
-        overload(self.e, &rows, self.d)
+        overload(self.e_plus_b, &rows, self.d)
     }
 }

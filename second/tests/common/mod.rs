@@ -3,6 +3,7 @@
 pub mod definitions;
 pub mod lateness;
 pub mod random;
+pub mod refused;
 pub mod sheet;
 
 use second::case::Case;
@@ -11,6 +12,7 @@ use second::sequence::next_case;
 use second::table::{TaskNo, VertexNo};
 use std::io::Write;
 use std::process::{Command, Output, Stdio};
+use std::thread;
 
 /// A task as the tests write it down.
 #[derive(Clone, Debug, Default, PartialEq, Eq)]
@@ -19,14 +21,29 @@ pub struct Task {
     pub vertices: Vec<(u32, u32)>,
     /// (from, to, p) of each edge.
     pub edges: Vec<(usize, usize, u32)>,
+    /// The masked length; 0 if there is none.
+    pub m: u32,
 }
 
-/// A task of these vertices (e, d) and edges (from, to, p).
+impl Task {
+    /// The largest e of its vertices.
+    pub fn largest_e(&self) -> u32 {
+        self.vertices.iter().map(|vertex| vertex.0).max().unwrap()
+    }
+}
+
+/// A task of these vertices (e, d) and edges (from, to, p), without a masked length.
 pub fn task(vertices: &[(u32, u32)], edges: &[(usize, usize, u32)]) -> Task {
     Task {
         vertices: vertices.to_vec(),
         edges: edges.to_vec(),
+        m: 0,
     }
+}
+
+/// The task with this masked length.
+pub fn masked(m: u32, task: Task) -> Task {
+    Task { m, ..task }
 }
 
 /// A self-edge task (e, d, p).
@@ -34,9 +51,14 @@ pub fn self_edge(e: u32, d: u32, p: u32) -> Task {
     task(&[(e, d)], &[(0, 0, p)])
 }
 
-/// A task frame's line.
+/// The line of a task frame without a masked length.
 pub fn task_line(vertices: usize, edges: usize) -> String {
     format!("01{vertices:02x}{edges:02x}\n")
+}
+
+/// The line of a task frame with a masked length.
+pub fn masked_task_line(vertices: usize, edges: usize, m: u32) -> String {
+    format!("04{vertices:02x}{edges:02x}{m:04x}\n")
 }
 
 /// A vertex frame's line.
@@ -53,7 +75,11 @@ pub fn edge_line(from: usize, to: usize, p: u32) -> String {
 pub fn open_text(tasks: &[Task]) -> String {
     let mut text = String::new();
     for task in tasks {
-        text += &task_line(task.vertices.len(), task.edges.len());
+        let (vertices, edges) = (task.vertices.len(), task.edges.len());
+        text += &match task.m {
+            0 => task_line(vertices, edges),
+            m => masked_task_line(vertices, edges, m),
+        };
         for &(e, d) in &task.vertices {
             text += &vertex_line(e, d);
         }
@@ -208,7 +234,13 @@ pub fn run(arguments: &[&str], input: &[u8]) -> Output {
         .stderr(Stdio::piped())
         .spawn()
         .unwrap();
-    // A program that is used wrongly may end before it has read everything.
-    let _ = program.stdin.take().unwrap().write_all(input);
-    program.wait_with_output().unwrap()
+    let mut stdin = program.stdin.take().unwrap();
+    // Side by side, since the program may answer more than a pipe holds before it has read everything.
+    thread::scope(|scope| {
+        scope.spawn(move || {
+            // A program that is used wrongly may end before it has read everything.
+            let _ = stdin.write_all(input);
+        });
+        program.wait_with_output().unwrap()
+    })
 }

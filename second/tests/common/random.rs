@@ -1,6 +1,6 @@
 //! A small pseudo-random generator, and random tables and texts.
 
-use super::{task_line, Task};
+use super::{masked_task_line, task_line, Task};
 
 /// A xorshift generator; the seed is anything but zero.
 pub struct Random(pub u64);
@@ -41,7 +41,7 @@ pub fn table(random: &mut Random, size: &Size) -> Vec<Task> {
     (0..tasks).map(|_| random_task(random, size)).collect()
 }
 
-/// A random valid task; short deadlines and separations are frequent, so that paths are many.
+/// A random valid task; short deadlines and separations are frequent, so that paths are many. One in two has a masked length.
 fn random_task(random: &mut Random, size: &Size) -> Task {
     let mut task = Task::default();
     let longest = [size.d, size.d / 3, 2][random.below(3)];
@@ -61,14 +61,27 @@ fn random_task(random: &mut Random, size: &Size) -> Task {
         let p = random.between(least, longest.max(least));
         task.edges.push((from, to, p));
     }
+    if random.below(2) == 0 {
+        task.m = random_m(random, &task);
+    }
     task
+}
+
+/// A random masked length that the task may have; 1 and the largest are frequent.
+pub fn random_m(random: &mut Random, task: &Task) -> u32 {
+    let largest = task.largest_e();
+    match random.below(4) {
+        0 => 1,
+        1 => largest,
+        _ => random.between(1, largest),
+    }
 }
 
 /// Damages a text in one random way.
 pub fn damage(random: &mut Random, text: &mut Vec<u8>) {
     let at = random.below(text.len() + 1);
     let digit = b"0123456789abcdef"[random.below(16)];
-    match random.below(9) {
+    match random.below(10) {
         0 => text.truncate(at),
         1 => text.insert(at, digit),
         2 => text.insert(at, random.below(256) as u8),
@@ -77,6 +90,7 @@ pub fn damage(random: &mut Random, text: &mut Vec<u8>) {
         5 if at < text.len() => text[at] = random.below(256) as u8,
         6 => damage_lines(random, text),
         7 => text.push(digit),
+        8 => damage_m(random, text),
         _ if at < text.len() => text[at] = digit,
         _ => (),
     }
@@ -100,6 +114,20 @@ fn damage_lines(random: &mut Random, text: &mut Vec<u8>) {
     *text = lines.concat();
 }
 
+/// Changes the masked length of some task that has one, at times to one that is out of bounds or too large.
+fn damage_m(random: &mut Random, text: &mut [u8]) {
+    let lines = text.split_mut(|&b| b == b'\n');
+    let mut masked: Vec<_> = lines
+        .filter(|line| line.len() == 10 && line.starts_with(b"04"))
+        .collect();
+    if masked.is_empty() {
+        return;
+    }
+    let at = random.below(masked.len());
+    let m = [0, 1, 2, 3, 4, 1_000, 1_001, random.below(65_536)][random.below(8)];
+    masked[at][6..].copy_from_slice(format!("{m:04x}").as_bytes());
+}
+
 /// Bytes without any sense.
 pub fn noise(random: &mut Random) -> Vec<u8> {
     (0..random.below(40))
@@ -109,14 +137,18 @@ pub fn noise(random: &mut Random) -> Vec<u8> {
 
 /// Lines that look like frames, in no sensible order.
 pub fn frames(random: &mut Random) -> Vec<u8> {
-    let mut text = task_line(random.below(3), random.below(3));
+    let mut text = match random.below(2) {
+        0 => task_line(random.below(3), random.below(3)),
+        _ => masked_task_line(random.below(3), random.below(3), random.between(0, 3)),
+    };
     for _ in 0..random.below(8) {
         let small = random.below(4);
-        text += &match random.below(5) {
+        text += &match random.below(6) {
             0 => task_line(small, random.below(3)),
+            4 => masked_task_line(small, random.below(3), random.between(0, 3)),
             1 | 2 => format!("02000{small}000{}\n", random.below(3)),
             3 => format!("030{}0{small}000{}\n", random.below(2), random.below(4)),
-            _ => format!("0{small}\n"),
+            _ => format!("0{}\n", random.below(6)),
         };
     }
     (text + "00\n").into_bytes()

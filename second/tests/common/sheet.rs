@@ -1,4 +1,4 @@
-//! The refusal sheet's rows 1 to 7 once more, line by line and without a reader's structure.
+//! The refusal sheet's rows 1 to 7, with what wish 3 adds to them, once more, line by line and without a reader's structure.
 
 use super::Task;
 
@@ -49,6 +49,7 @@ impl Expected {
         let allowed = match frame[0] {
             0 => !inside && !self.tasks.is_empty() && frame.len() == 1,
             1 => !inside && self.tasks.len() < 8 && frame.len() == 3,
+            4 => !inside && self.tasks.len() < 8 && frame.len() == 5,
             2 => self.vertices > 0 && frame.len() == 5,
             3 => self.vertices == 0 && self.edges > 0 && frame.len() == 5,
             _ => false,
@@ -59,6 +60,7 @@ impl Expected {
         match frame[0] {
             0 => return Ok(true),
             1 => self.take_task(frame[1], frame[2])?,
+            4 => self.take_masked_task(frame[1], frame[2], frame[3] * 256 + frame[4])?,
             2 => self.take_vertex(frame[1] * 256 + frame[2], frame[3] * 256 + frame[4])?,
             _ => self.take_edge(
                 frame[1] as usize,
@@ -78,12 +80,25 @@ impl Expected {
         Ok(())
     }
 
+    fn take_masked_task(&mut self, vertices: u32, edges: u32, m: u32) -> Result<(), u8> {
+        self.take_task(vertices, edges)?;
+        if m == 0 || m > 1000 {
+            return Err(3);
+        }
+        self.tasks.last_mut().unwrap().m = m;
+        Ok(())
+    }
+
     fn take_vertex(&mut self, e: u32, d: u32) -> Result<(), u8> {
         if e == 0 || e > 1000 || d == 0 || d > 200 {
             return Err(3);
         }
         self.vertices -= 1;
-        self.tasks.last_mut().unwrap().vertices.push((e, d));
+        let task = self.tasks.last_mut().unwrap();
+        task.vertices.push((e, d));
+        if self.vertices == 0 && task.m > task.largest_e() {
+            return Err(3);
+        }
         Ok(())
     }
 

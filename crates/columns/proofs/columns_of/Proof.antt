@@ -1,6 +1,7 @@
 use Prim.Native.Nat.{_-_, _≤_}
 use mathlib.Core.Path.{_≡_, refl}
 use native.Mathlib.Omega.{arith}
+use borrow.Author.Needs.{needs}
 use Rattle.columns.proofs.TaskColumns.{Front, column-sorted, columns-say, fromIn, front-all, front-more, pIn, toIn}
 use Rattle.columns.proofs.Readiness.{ready}
 use Rattle.columns.proofs.columns_of.Statement.{statement}
@@ -14,6 +15,9 @@ abbrev μ-loop : tie.MeasureT-loop
 
 loop-holds : tie.Need-loop-holds Inv-loop μ-loop
 loop-holds c = (omega arith, refl, refl, refl)
+
+cast-if1 : tie.Need-cast-if1 Inv-loop μ-loop
+cast-if1 c = search needs
 
 mul-x : tie.Need-mul-x Inv-loop μ-loop
 mul-x c = omega (arith, ready _ (c .before .before .before .before .pre) .links)
@@ -52,29 +56,36 @@ loop-again c =
       front-more t r pIn (l .p) (l .k) refl h (l .inv .3),
     )
 
+cast-edge-starts : tie.Need-cast-edge-starts Inv-loop μ-loop
+cast-edge-starts c = search needs
+
 edge-starts-requires : tie.Need-edge-starts-requires Inv-loop μ-loop
 edge-starts-requires c κs =
-    let s = c .before .before .before .before .before in
-    let l = c .before .before .before .loop in (
+    let s = c .before .before .before .before .before .before in
+    let l = c .before .before .before .before .loop in (
       ready _ (s .pre) .links,
       column-sorted (s .args .t) (ready _ (s .pre)) (l .from)
           (front-all (s .args .t) fromIn (l .from) (l .k) (omega arith) (l .inv .1)),
     )
 
+cast-executions : tie.Need-cast-executions Inv-loop μ-loop
+cast-executions c = search needs
+
 executions-requires : tie.Need-executions-requires Inv-loop μ-loop
 executions-requires c κs =
-    let held = ready _ (c .before .before .before .before .before .before .before .pre) in
+    let held = ready _ (c .before .before .before .before .before .before .before .before .before .pre) in
     (held .few, held .cellsV)
 
 returns : tie.Need-returns Inv-loop μ-loop
 returns c =
-    let s = c .before .before .before .before .before .before .before .before in
-    let l = c .before .before .before .before .before .before .loop in
+    let s = c .before .before .before .before .before .before .before .before .before .before in
+    let l = c .before .before .before .before .before .before .before .before .loop in
+    let starts = c .before .before .before .edge-starts in
     let t = s .args .t in
     let all : l .k ≡ t .ne = omega arith in
-    columns-say t (ready t (s .pre)) (l .from) (c .before .before .edge-starts .result) (l .to) (l .p) (c .executions .result)
+    columns-say t (ready t (s .pre)) (l .from) (starts .result) (l .to) (l .p) (c .executions .result)
     (front-all t fromIn (l .from) (l .k) all (l .inv .1)) (front-all t toIn (l .to) (l .k) all (l .inv .2)) (front-all t pIn (l .p) (l .k) all (l .inv .3))
-    (c .executions .ensures) (c .before .before .edge-starts .ensures)
+    (c .executions .ensures) (starts .ensures)
 
 pub columns-of-spec : {M : Type 1} → statement M
 columns-of-spec =
@@ -83,6 +94,7 @@ columns-of-spec =
     Inv-loop
     μ-loop
     loop-holds
+    cast-if1
     mul-x
     array-copy-out-x
     array-write-from
@@ -92,6 +104,8 @@ columns-of-spec =
     add-k
     loop-less
     loop-again
+    cast-edge-starts
     edge-starts-requires
+    cast-executions
     executions-requires
     returns)

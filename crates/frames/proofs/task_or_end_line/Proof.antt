@@ -1,88 +1,65 @@
-use Rattle.frames.proofs.Answers.{held, failed, TaskSeen, task-kind, task-ninth, task-outside, task-taken}
+use Rattle.frames.proofs.Answers.{plain-task, masked-task, no-task}
 use Rattle.frames.proofs.Expected.{starts-says}
 use Prim.Native.Nat.{_<_}
+use mathlib.Core.Path.{sym, _∙_}
 use lib.ListN.{length}
-use Rattle.frames.specs.Frames.{taskDigits}
+use Rattle.frames.specs.Frames.{taskDigits, partDigits}
 use native.Mathlib.Omega.{arith}
 use borrow.Author.Needs.{needs}
 use Rattle.frames.proofs.task_or_end_line.Statement.{statement}
 use Rattle.frames.proofs.task_or_end_line.Tie as tie
 
-long : (c : tie.Else1) → taskDigits < length (c .before .before .before .args .text .now)
-long c = starts-says _ _ _ (held (c .before .starts .ensures) (c .if1 .left)) .long
+long-01 : (c : tie.Then1) → taskDigits < length (c .before .before .before .args .text .now)
+long-01 c = starts-says _ _ _ (sym (c .before .starts .ensures) ∙ c .if1 .taken) .long
 
-seen : (c : tie.After-task-in) →
-    let e = c .before in
-    let v = e .before in
-    let start = v .before .before in
-    let a = start .before .before .before .args in
-    TaskSeen (a .k) (a .text .now) (v .pair-at .result) (e .pair-at2 .result)
-seen c =
-    let e = c .before in
-    let v = e .before in
-    let start = v .before .before in
-    record {
-      starts = held (start .before .starts .ensures) (start .if1 .left);
-      fits = v .before .if2 .left;
-      v-there = v .pair-at .ensures;
-      e-there = e .pair-at2 .ensures;
-    }
+long-04 : (c : tie.Then2) → partDigits < length (c .before .before .before .before .before .args .text .now)
+long-04 c = starts-says _ _ _ (sym (c .before .starts2 .ensures) ∙ c .if2 .taken) .long
 
 starts-requires : tie.Need-starts-requires
 starts-requires c κs = search needs
 
-end-line-requires : tie.Need-end-line-requires
-end-line-requires c κs = search needs
+task-line-requires : tie.Need-task-line-requires
+task-line-requires c κs = (omega arith, long-01 c, c .before .before .before .pre)
 
 returns : tie.Need-returns
-returns c = task-kind _ _ (failed (c .before .before .starts .ensures) (c .before .if1 .taken)) (c .end-line .ensures)
+returns c = let test = c .before in plain-task _ _ (sym (test .before .starts .ensures) ∙ test .if1 .taken) (c .task-line .ensures)
 
-fault-requires : tie.Need-fault-requires
-fault-requires c κs = search needs
+starts-requires-2 : tie.Need-starts-requires-2
+starts-requires-2 c κs = search needs
+
+word-at-requires : tie.Need-word-at-requires
+word-at-requires c κs = (omega (arith, long-04 c), c .before .before .before .before .before .pre)
+
+task-line-requires-2 : tie.Need-task-line-requires-2
+task-line-requires-2 c κs = (omega arith, long-04 (c .before), c .before .before .before .before .before .before .pre)
 
 returns-2 : tie.Need-returns-2
 returns-2 c =
-    let start = c .before .before in
-    task-ninth _ _ (held (start .before .starts .ensures) (start .if1 .left)) (c .before .if2 .taken) (c .fault .ensures)
+    let word = c .before in
+    let test = word .before in
+    let first = test .before .before in
+    masked-task _ _ (sym (first .before .starts .ensures) ∙ first .if1 .left) (sym (test .before .starts2 .ensures) ∙ test .if2 .taken)
+    (word .word-at .ensures) (c .task-line2 .ensures) (omega arith)
 
-pair-at-requires : tie.Need-pair-at-requires
-pair-at-requires c κs = (omega (arith, long (c .before)), c .before .before .before .before .pre)
-
-pair-at-requires-2 : tie.Need-pair-at-requires-2
-pair-at-requires-2 c κs = (omega (arith, long (c .before .before)), c .before .before .before .before .before .pre)
-
-task-in-requires : tie.Need-task-in-requires
-task-in-requires c κs = search needs
-
-fault-requires-2 : tie.Need-fault-requires-2
-fault-requires-2 c κs = search needs
+end-line-requires : tie.Need-end-line-requires
+end-line-requires c κs = search needs
 
 returns-3 : tie.Need-returns-3
-returns-3 c = task-outside (seen (c .before .before)) (failed (c .before .before .task-in .ensures) (c .before .if3 .taken)) (c .fault2 .ensures)
-
-cast-t12 : tie.Need-cast-t12
-cast-t12 c = search needs
-
-cast-t13 : tie.Need-cast-t13
-cast-t13 c = search needs
-
-returns-4 : tie.Need-returns-4
-returns-4 c = task-taken (seen (c .before)) (held (c .before .task-in .ensures) (c .if3 .left))
+returns-3 c =
+    let test = c .before in
+    let first = test .before .before in
+    no-task _ _ (sym (first .before .starts .ensures) ∙ first .if1 .left) (sym (test .before .starts2 .ensures) ∙ test .if2 .left) (c .end-line .ensures)
 
 pub task-or-end-line-spec : {M : Type 1} → statement M
 task-or-end-line-spec =
     tie.close
     (tie.spec
     starts-requires
-    end-line-requires
+    task-line-requires
     returns
-    fault-requires
+    starts-requires-2
+    word-at-requires
+    task-line-requires-2
     returns-2
-    pair-at-requires
-    pair-at-requires-2
-    task-in-requires
-    fault-requires-2
-    returns-3
-    cast-t12
-    cast-t13
-    returns-4)
+    end-line-requires
+    returns-3)

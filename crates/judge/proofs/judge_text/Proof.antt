@@ -59,6 +59,9 @@ element-copy-out-own c =
     leb-false (was .read .result .table .n) (entry .args .task .0) (sym (sought .no-such .ensures) ∙ asked .if1 .left) in
     omega (arith, held-few (was .read .result .table) (read-held table))
 
+cast-no-such : tie.Need-cast-no-such
+cast-no-such c = search needs
+
 no-such-requires-2 : tie.Need-no-such-requires-2
 no-such-requires-2 c κs = search needs
 
@@ -69,7 +72,7 @@ returns-2 : tie.Need-returns-2
 returns-2 c =
     let asked2 = c .before in
     let sought2 = asked2 .before in
-    let asked = sought2 .before .before .before in
+    let asked = sought2 .before .before .before .before in
     let sought = asked .before in
     let told = sought .before .before in
     let was = told .before .before in
@@ -89,7 +92,7 @@ judge-vertex-requires : tie.Need-judge-vertex-requires
 judge-vertex-requires c κs =
     let asked2 = c .before .before in
     let sought2 = asked2 .before in
-    let asked = sought2 .before .before .before in
+    let asked = sought2 .before .before .before .before in
     let sought = asked .before in
     let told = sought .before .before in
     let was = told .before .before in
@@ -112,7 +115,7 @@ same-length-2 c = search needs
 returns-3 : tie.Need-returns-3
 returns-3 c =
     let said = c .before .before .before .before in
-    let told = said .before .before .before .before .before .before .before .before .before .before in
+    let told = said .before .before .before .before .before .before .before .before .before .before .before in
     let was = told .before .before in
     let entry = was .before .before .before .before in
     let table = table-read (entry .args .text .now) (was .read .result) (was .read .ensures) (told .enum-told .given .1) in
@@ -143,6 +146,7 @@ judge-text-spec =
     cast-h
     mul-own
     element-copy-out-own
+    cast-no-such
     no-such-requires-2
     no-such-vertex-requires-2
     returns-2

@@ -7,9 +7,12 @@ use Rattle.paths.proofs.path_rows.Tie as tie
 columns-of-requires : tie.Need-columns-of-requires
 columns-of-requires c κs = c .before .pre .0
 
+cast-rows-all : tie.Need-cast-rows-all
+cast-rows-all c = search needs
+
 rows-all-requires : tie.Need-rows-all-requires
 rows-all-requires c κs =
-    let at-columns = c .before .before .before .before .before .before .before .before .before in
+    let at-columns = c .before .before .before .before .before .before .before .before .before .before in
     let entry = at-columns .before .before in
     let held = entry .pre .0 in
     let asked = entry .pre .1 in
@@ -22,10 +25,10 @@ same-length c = search needs
 returns : tie.Need-returns
 returns c =
     let at-rows = c .before .before in
-    let at-columns = at-rows .before .before .before .before .before .before .before .before .before .before in
+    let at-columns = at-rows .before .before .before .before .before .before .before .before .before .before .before in
     let entry = at-columns .before .before in
     rows-put (entry .pre .0) (at-columns .columns-of .ensures) (entry .args .d .0) (entry .args .part .now) (at-rows .rows-all .last .0)
     (at-rows .rows-all .ensures .1)
 
 pub path-rows-spec : {M : Type 1} → statement M
-path-rows-spec = tie.close (tie.spec columns-of-requires rows-all-requires same-length returns)
+path-rows-spec = tie.close (tie.spec columns-of-requires cast-rows-all rows-all-requires same-length returns)

@@ -1,9 +1,14 @@
-use Rattle.reader.proofs.Turn.{Turn, turn-first, FrameTurn, frame-refused, end-not-last, end-last, TaskFacts, task-facts, TaskTurn, lines-few}
+use Rattle.reader.proofs.Turn.{Turn, turn-first, FrameTurn, no-task-taken, frame-ends, TaskFacts, task-facts, TaskTurn, lines-few, kept, emptied}
 use Rattle.reader.proofs.Turn.{task-stops, task-more}
 use Rattle.reader.proofs.Result.{reading-reads}
 use Rattle.meaning.specs.Bounds.{mostTasks}
-use Prim.Native.Nat.{_-_}
-use mathlib.Core.Path.{sym, _∙_}
+use Prim.Native.Nat.{_+_, _-_}
+use mathlib.Core.Path.{_≡_, sym, ap, _∙_}
+use mathlib.Core.Logic.{⊎-elim}
+use Rattle.meaning.specs.Text.{read}
+use Rattle.reader.specs.declared.Status.{Status}
+use Rattle.reader.specs.Inner.{readingWith}
+use Rattle.reader.proofs.Descent.{readingRecord}
 use native.Mathlib.Omega.{arith}
 use borrow.Author.Needs.{needs}
 use Rattle.reader.proofs.read.Statement.{statement}
@@ -22,23 +27,27 @@ frame : (c : tie.After-task-or-end-line Inv-loop μ-loop) →
     FrameTurn (l .before .before .before .before .args .text .now) (l .loop .table) (l .loop .at) (l .loop .line) (c .task-or-end-line .result)
 frame c = record { turn = c .before .before .before .loop .inv; gives = c .task-or-end-line .ensures }
 
-facts : (c : tie.After-known-told2 Inv-loop μ-loop) →
-    let counts = c .before .next2 .given .0 in
+facts : (c : tie.After-known-told Inv-loop μ-loop) →
+    let counts = c .before .next .given .0 in
     let l = c .before .before .before .before .before .before in
-    TaskFacts (l .before .before .before .before .args .text .now) (l .loop .table) (l .loop .at) (l .loop .line) (counts .0) (counts .1 .0)
-facts c = task-facts (frame (c .before .before .before)) (c .before .next2 .given .1)
+    TaskFacts (l .before .before .before .before .args .text .now) (l .loop .table) (l .loop .at) (l .loop .line) (counts .0) (counts .1 .0) (counts .1 .1 .0)
+facts c = task-facts (frame (c .before .before .before)) (c .before .next .given .1)
 
 lines : (c : tie.After-read-task Inv-loop μ-loop) →
-    let next = c .before .before .before in
-    let counts = next .next2 .given .0 in
+    let bytes = c .before .before in
+    let next = bytes .before .before in
+    let counts = next .next .given .0 in
     let l = next .before .before .before .before .before in
     let text = l .before .before .before .before .args .text .now in
-    TaskTurn text (l .loop .table) (l .loop .at) (l .loop .line) (counts .0) (counts .1 .0) (c .read-task .result)
+    TaskTurn text (l .loop .table) (l .loop .at) (l .loop .line) (counts .0) (counts .1 .0) (counts .1 .1 .0) (l .loop .at + bytes .task-bytes .result)
+    (c .read-task .result)
 lines c =
-    let next = c .before .before .before in
+    let bytes = c .before .before in
+    let next = bytes .before .before in
     let line = next .before .before in
     record {
-      frame = record { turn = line .before .before .before .loop .inv; gives = sym (next .next2 .given .1) ∙ line .task-or-end-line .ensures };
+      frame = record { turn = line .before .before .before .loop .inv; gives = sym (next .next .given .1) ∙ line .task-or-end-line .ensures };
+      place = ap (λ n. line .before .before .before .loop .at + n) (bytes .task-bytes .ensures);
       gives = c .read-task .ensures;
     }
 
@@ -66,108 +75,110 @@ task-or-end-line-requires c κs = (c .before .before .before .before .worths .en
 enum-known-next : tie.Need-enum-known-next Inv-loop μ-loop
 enum-known-next c = search needs
 
-refused-requires : tie.Need-refused-requires Inv-loop μ-loop
-refused-requires c κs = search needs
+sub-ended : tie.Need-sub-ended Inv-loop μ-loop
+sub-ended c = search needs
 
-returns : tie.Need-returns Inv-loop μ-loop
-returns c =
-    let at-next = c .before .before in
-    let at-place = at-next .before .before in
-    reading-reads _ _ (c .refused .ensures ∙ frame-refused (frame at-place) (at-next .next .given .1))
+ended-requires : tie.Need-ended-requires Inv-loop μ-loop
+ended-requires c κs = let t = c .before .before .before .before .loop .inv in omega (arith, t .early, t .few)
 
-enum-told : tie.Need-enum-told Inv-loop μ-loop
-enum-told c = search needs
+task-bytes-requires : tie.Need-task-bytes-requires Inv-loop μ-loop
+task-bytes-requires c κs = search needs
 
-sub-if1 : tie.Need-sub-if1 Inv-loop μ-loop
-sub-if1 c = search needs
-
-add-refused : tie.Need-add-refused Inv-loop μ-loop
-add-refused c = search needs
-
-refused-requires-2 : tie.Need-refused-requires-2 Inv-loop μ-loop
-refused-requires-2 c κs = search needs
-
-returns-2 : tie.Need-returns-2 Inv-loop μ-loop
-returns-2 c =
-    let at-enum-told = c .before .before in
-    let at-place = at-enum-told .before .before in
-    reading-reads _ _ (c .refused2 .ensures ∙ end-not-last (frame at-place) (at-enum-told .enum-told .given .1) (c .before .if1 .taken))
-
-returns-3 : tie.Need-returns-3 Inv-loop μ-loop
-returns-3 c = reading-reads _ _ (end-last (frame (c .before .before .before)) (c .before .enum-told .given .1) (c .if1 .left))
-
-enum-known-next-2 : tie.Need-enum-known-next-2 Inv-loop μ-loop
-enum-known-next-2 c = search needs
-
-add-read-task : tie.Need-add-read-task Inv-loop μ-loop
-add-read-task c = let f = facts (c .before) in omega arith
+add-from : tie.Need-add-from Inv-loop μ-loop
+add-from c = let f = facts (c .before) in omega (arith, c .task-bytes .ensures)
 
 read-task-requires : tie.Need-read-task-requires Inv-loop μ-loop
 read-task-requires c κs =
-    let f = facts (c .before) in
-    let made = c .before .before .before .before .before .before .before .before .before in
-    (omega arith, omega arith, omega arith, made .worths .ensures)
+    let f = facts (c .before .before) in
+    let made = c .before .before .before .before .before .before .before .before .before .before in
+    (omega (arith, c .before .task-bytes .ensures), omega arith, omega arith, omega arith, made .worths .ensures)
 
 enum-known-outcome : tie.Need-enum-known-outcome Inv-loop μ-loop
 enum-known-outcome c = search needs
 
+add-refused : tie.Need-add-refused Inv-loop μ-loop
+add-refused c = let f = facts (c .before .before .before .before .before .before) in omega arith
+
 add-refused-2 : tie.Need-add-refused-2 Inv-loop μ-loop
-add-refused-2 c = let f = facts (c .before .before .before .before .before) in omega arith
-
-add-refused-3 : tie.Need-add-refused-3 Inv-loop μ-loop
-add-refused-3 c =
-    let f = facts (c .before .before .before .before .before .before) in
+add-refused-2 c =
+    let f = facts (c .before .before .before .before .before .before .before) in
     omega (arith, lines-few (lines (c .before .before .before .before)))
 
-refused-requires-3 : tie.Need-refused-requires-3 Inv-loop μ-loop
-refused-requires-3 c κs =
-    let f = facts (c .before .before .before .before .before .before) in
+refused-requires : tie.Need-refused-requires Inv-loop μ-loop
+refused-requires c κs =
+    let f = facts (c .before .before .before .before .before .before .before) in
     omega (arith, lines-few (lines (c .before .before .before .before)))
 
-returns-4 : tie.Need-returns-4 Inv-loop μ-loop
-returns-4 c =
-    let at-outcome = c .before .before .before in
-    let at-place = at-outcome .before .before in
-    reading-reads _ _ (c .refused3 .ensures ∙ task-stops (lines at-place) (at-outcome .outcome .given .1))
-
-enum-told-2 : tie.Need-enum-told-2 Inv-loop μ-loop
-enum-told-2 c = search needs
+enum-told : tie.Need-enum-told Inv-loop μ-loop
+enum-told c = search needs
 
 mul-task : tie.Need-mul-task Inv-loop μ-loop
 mul-task c = search needs
 
 element-set-from-task : tie.Need-element-set-from-task Inv-loop μ-loop
-element-set-from-task c = let f = facts (c .before .before .before .before .before) in omega arith
+element-set-from-task c = let f = facts (c .before .before .before .before .before .before) in omega arith
 
 add-table : tie.Need-add-table Inv-loop μ-loop
-add-table c = let f = facts (c .before .before .before .before .before) in omega arith
+add-table c = let f = facts (c .before .before .before .before .before .before) in omega arith
 
 add-line : tie.Need-add-line Inv-loop μ-loop
-add-line c = let f = facts (c .before .before .before .before .before) in omega arith
+add-line c = let f = facts (c .before .before .before .before .before .before) in omega arith
 
 add-line-2 : tie.Need-add-line-2 Inv-loop μ-loop
-add-line-2 c = let f = facts (c .before .before .before .before .before) in omega arith
+add-line-2 c = let f = facts (c .before .before .before .before .before .before) in omega arith
 
 add-line-3 : tie.Need-add-line-3 Inv-loop μ-loop
-add-line-3 c = let f = facts (c .before .before .before .before .before) in omega arith
+add-line-3 c = let f = facts (c .before .before .before .before .before .before) in omega arith
 
 add-at : tie.Need-add-at Inv-loop μ-loop
-add-at c = let f = facts (c .before .before .before .before .before) in omega arith
-
-add-at-2 : tie.Need-add-at-2 Inv-loop μ-loop
-add-at-2 c = let f = facts (c .before .before .before .before .before) in omega arith
+add-at c = let f = facts (c .before .before .before .before .before .before) in omega arith
 
 mul-at : tie.Need-mul-at Inv-loop μ-loop
-mul-at c = let f = facts (c .before .before .before .before .before) in omega arith
+mul-at c = let f = facts (c .before .before .before .before .before .before) in omega arith
 
-add-at-3 : tie.Need-add-at-3 Inv-loop μ-loop
-add-at-3 c = let g = task-more (lines (c .before .before .before)) (c .before .enum-told2 .given .1) in omega arith
+add-at-2 : tie.Need-add-at-2 Inv-loop μ-loop
+add-at-2 c =
+    let g = task-more (lines (c .before .before .before)) (c .before .enum-told .given .1) in
+    let known = c .before .before .before .before .before .before .before .before .before .before .before .before .before .before .before in
+    omega (arith, g .inside, known .before .good)
 
 loop-less : tie.Need-loop-less Inv-loop μ-loop
-loop-less c = let f = facts (c .before .before .before .before .before) in omega arith
+loop-less c = let f = facts (c .before .before .before .before .before .before) in omega arith
 
 loop-again : tie.Need-loop-again Inv-loop μ-loop
-loop-again c = task-more (lines (c .before .before .before)) (c .before .enum-told2 .given .1)
+loop-again c = task-more (lines (c .before .before .before)) (c .before .enum-told .given .1)
+
+-- where the loop is left, the reading is known: no task's frame stands there, or a line of the task is refused
+closed : (c : tie.At-match-came Inv-loop μ-loop) →
+    let l = c .before .before .before .before in
+    readingWith (c .match .status) (l .loop .table) ≡ readingRecord (read (l .before .before .before .before .args .text .now))
+closed c =
+    let table = c .before .before .before .before .loop .table in
+    ⊎-elim
+    (λ w. ap (λ (x : Status). readingWith x table) (w .2 ∙ w .1 .ensures) ∙ frame-ends (frame (c .before)) (no-task-taken (w .0 .keys2)))
+    (λ w.
+    let told : tie.After-known-told Inv-loop μ-loop =
+    record { before = record { before = record { before = c .before; match = w .0 }; next = w .1 }; known-told = w .2 } in
+    let taken : tie.After-read-task Inv-loop μ-loop =
+    record { before = record { before = record { before = told; task-bytes = w .3 }; worths3 = w .4 }; read-task = w .5 } in
+    ap (λ (x : Status). readingWith x table) (w .11 ∙ w .10 .ensures) ∙ task-stops (lines taken) (w .7 .given .1) (omega arith))
+    (c .match .came)
+
+is-refused-requires : tie.Need-is-refused-requires Inv-loop μ-loop
+is-refused-requires c κs = search needs
+
+no-table-requires-2 : tie.Need-no-table-requires-2 Inv-loop μ-loop
+no-table-requires-2 c κs = search needs
+
+returns : tie.Need-returns Inv-loop μ-loop
+returns c =
+    let test = c .before .before in
+    reading-reads _ _ (emptied _ _ (closed (test .before)) (sym (test .is-refused .ensures) ∙ c .before .if1 .taken) (c .no-table2 .ensures))
+
+returns-2 : tie.Need-returns-2 Inv-loop μ-loop
+returns-2 c =
+    let test = c .before in
+    reading-reads _ _ (kept _ _ (closed (test .before)) (sym (test .is-refused .ensures) ∙ c .if1 .left))
 
 pub read-spec : {M : Type 1} → statement M
 read-spec =
@@ -183,23 +194,16 @@ read-spec =
     part-task-or-end-line-end
     task-or-end-line-requires
     enum-known-next
-    refused-requires
-    returns
-    enum-told
-    sub-if1
-    add-refused
-    refused-requires-2
-    returns-2
-    returns-3
-    enum-known-next-2
-    add-read-task
+    sub-ended
+    ended-requires
+    task-bytes-requires
+    add-from
     read-task-requires
     enum-known-outcome
+    add-refused
     add-refused-2
-    add-refused-3
-    refused-requires-3
-    returns-4
-    enum-told-2
+    refused-requires
+    enum-told
     mul-task
     element-set-from-task
     add-table
@@ -207,8 +211,11 @@ read-spec =
     add-line-2
     add-line-3
     add-at
-    add-at-2
     mul-at
-    add-at-3
+    add-at-2
     loop-less
-    loop-again)
+    loop-again
+    is-refused-requires
+    no-table-requires-2
+    returns
+    returns-2)

@@ -5,12 +5,13 @@ use Rattle.table.specs.declared.Vertex.{Vertex}
 use Rattle.table.specs.declared.Edge.{Edge}
 use Rattle.table.specs.declared.Task.{Task}
 use Rattle.table.specs.Record.{taskCells}
+use Rattle.table.specs.Inner.{ticks}
 use borrow.Author.Needs.{needs}
 use Rattle.table.proofs.no_task.Statement.{statement}
 use Rattle.table.proofs.no_task.Tie as tie
 
 filledWith : Vertex → Edge → Task
-filledWith x y = taskCells 0 0 (replicate mostVertices x) (replicate mostEdges y)
+filledWith x y = taskCells (ticks 0) 0 0 (replicate mostVertices x) (replicate mostEdges y)
 
 no-vertex-requires : tie.Need-no-vertex-requires
 no-vertex-requires c κs = search needs

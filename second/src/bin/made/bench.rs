@@ -1,14 +1,28 @@
-//! The bench examples R1 to R11 as texts.
+//! The bench examples R1 to R11 as texts, and R2 with a masked length.
 
-use super::{self_edge, task, text};
+use super::{masked_task, self_edge, task, text};
 
 /// R1's text, with the last e.
 pub fn r1(last_e: u32) -> String {
-    text(&[
+    text(&r1_tasks(last_e))
+}
+
+/// R1's tasks, with the last e.
+fn r1_tasks(last_e: u32) -> Vec<String> {
+    vec![
         self_edge(2, 5, 5),
         self_edge(2, 7, 7),
         self_edge(last_e, 6, 7),
-    ])
+    ]
+}
+
+/// R2 with one more task, of one vertex e 1 d 100: below the others with masked length 1 and without, and above them with it and without.
+pub fn masked_texts() -> [String; 4] {
+    let vertex = [(1, 100)];
+    let [masked, plain] = [masked_task(1, &vertex, &[]), task(&vertex, &[])];
+    let below = |fourth: &String| text(&[r1_tasks(1), vec![fourth.clone()]].concat());
+    let above = |first: &String| text(&[vec![first.clone()], r1_tasks(1)].concat());
+    [below(&masked), below(&plain), above(&masked), above(&plain)]
 }
 
 /// R3's task, below it a vertex that always misses and whose d is the horizon.

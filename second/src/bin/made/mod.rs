@@ -7,9 +7,14 @@ pub mod bench;
 pub mod refusals;
 pub mod vertices;
 
-/// A task frame's line.
+/// The line of a task frame without a masked length.
 fn task_line(vertices: usize, edges: usize) -> String {
     format!("01{vertices:02x}{edges:02x}\n")
+}
+
+/// The line of a task frame with a masked length.
+pub fn masked_task_line(vertices: usize, edges: usize, m: u32) -> String {
+    format!("04{vertices:02x}{edges:02x}{m:04x}\n")
 }
 
 /// A vertex frame's line.
@@ -22,9 +27,19 @@ pub fn edge_line(from: usize, to: usize, p: u32) -> String {
     format!("03{from:02x}{to:02x}{p:04x}\n")
 }
 
-/// The lines of a task with these vertices (e, d) and edges (from, to, p).
+/// The lines of a task with these vertices (e, d) and edges (from, to, p), without a masked length.
 pub fn task(vertices: &[(u32, u32)], edges: &[(usize, usize, u32)]) -> String {
-    let mut lines = task_line(vertices.len(), edges.len());
+    task_line(vertices.len(), edges.len()) + &graph_lines(vertices, edges)
+}
+
+/// The lines of a task with this masked length, these vertices (e, d) and edges (from, to, p).
+pub fn masked_task(m: u32, vertices: &[(u32, u32)], edges: &[(usize, usize, u32)]) -> String {
+    masked_task_line(vertices.len(), edges.len(), m) + &graph_lines(vertices, edges)
+}
+
+/// The lines of these vertices (e, d) and edges (from, to, p).
+fn graph_lines(vertices: &[(u32, u32)], edges: &[(usize, usize, u32)]) -> String {
+    let mut lines = String::new();
     for &(e, d) in vertices {
         lines += &vertex_line(e, d);
     }
@@ -74,8 +89,30 @@ pub struct Size {
     pub p: usize,
 }
 
-/// The lines of a random valid task; one in three edges is there.
+/// The lines of a random valid task; one in two has a masked length.
 pub fn random_task(random: &mut Random, size: &Size) -> String {
+    let (vertices, edges) = random_graph(random, size);
+    if random.below(2) == 0 {
+        return task(&vertices, &edges);
+    }
+    let e = vertices.iter().map(|vertex| vertex.0 as usize);
+    let largest = e.max().unwrap_or(1);
+    let most = [1, largest.div_ceil(3), largest][random.below(3)];
+    let m = 1 + random.below(most) as u32;
+    masked_task(m, &vertices, &edges)
+}
+
+/// The lines of a random valid task without a masked length.
+pub fn random_unmasked_task(random: &mut Random, size: &Size) -> String {
+    let (vertices, edges) = random_graph(random, size);
+    task(&vertices, &edges)
+}
+
+/// The vertices (e, d) and the edges (from, to, p) of a task.
+type Graph = (Vec<(u32, u32)>, Vec<(usize, usize, u32)>);
+
+/// The random vertices and edges of a valid task; one in three edges is there.
+fn random_graph(random: &mut Random, size: &Size) -> Graph {
     let count = 1 + random.below(size.vertices);
     let mut vertices = Vec::new();
     for _ in 0..count {
@@ -93,7 +130,20 @@ pub fn random_task(random: &mut Random, size: &Size) -> String {
     }
     // A task has at most 32 edges.
     edges.truncate(32);
-    task(&vertices, &edges)
+    (vertices, edges)
+}
+
+/// Changes the masked length of a random task that has one, at times to one that is out of bounds or too large.
+pub fn damage_m(random: &mut Random, text: &mut [u8]) {
+    let lines = text.split_mut(|&byte| byte == b'\n');
+    let is_masked_task = |line: &&mut [u8]| line.len() == 10 && line.starts_with(b"04");
+    let mut masked: Vec<_> = lines.filter(is_masked_task).collect();
+    if masked.is_empty() {
+        return;
+    }
+    let at = random.below(masked.len());
+    let m = [0, 1, 5, 9, 1_000, 1_001, random.below(65_536)][random.below(7)];
+    masked[at][6..].copy_from_slice(format!("{m:04x}").as_bytes());
 }
 
 /// Changes, puts in, takes out or cuts off at a random byte of a text that has one.

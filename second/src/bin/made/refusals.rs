@@ -1,6 +1,6 @@
 //! Texts with every refusal from 1 to 7, at each bound and one past it.
 
-use super::{bench, edge_line, task, vertex_line};
+use super::{bench, edge_line, masked_task, masked_task_line, task, vertex_line};
 
 /// The lines of a small valid text: two vertices, two edges.
 pub const LINES: [&str; 6] = [
@@ -12,12 +12,26 @@ pub const LINES: [&str; 6] = [
     "00\n",
 ];
 
+/// The lines of a small valid text with a masked length, which is the largest e: three vertices, two edges.
+const MASKED_LINES: [&str; 7] = [
+    "0403020002\n",
+    "0200010005\n",
+    "0200020006\n",
+    "0200010006\n",
+    "0300010005\n",
+    "0301000006\n",
+    "00\n",
+];
+
 /// Adds every text.
 pub fn add(texts: &mut Vec<Vec<u8>>) {
     lines(texts);
     frames(texts);
+    ninth_tasks(texts);
     counts(texts);
     bounds(texts);
+    masked_lengths(texts);
+    faults_beside_m(texts);
     edges(texts);
     ends(texts);
 }
@@ -48,6 +62,13 @@ fn lines(texts: &mut Vec<Vec<u8>>) {
     for text in ["zz", "\n", "\n\n", "00", "010101", "\u{feff}010101\n"] {
         texts.push(text.into());
     }
+    let masked = MASKED_LINES[0].trim_end();
+    for end in 1..=masked.len() {
+        texts.push(masked[..end].into());
+    }
+    for more in ["0", "\r", "0A", "0g"] {
+        texts.push(format!("{masked}{more}\n").into_bytes());
+    }
 }
 
 /// Refusal 2: kinds that aren't allowed here, and lengths wrong for their kind.
@@ -59,7 +80,10 @@ fn frames(texts: &mut Vec<Vec<u8>>) {
             "0200010005\n",
             "0300000006\n",
             "04\n",
-            "0400010005\n",
+            "04010101\n",
+            "0401010001\n",
+            "040101000100\n",
+            "0500010005\n",
             "10\n",
             "1f00000000\n",
             "ff\n",
@@ -77,11 +101,23 @@ fn frames(texts: &mut Vec<Vec<u8>>) {
             texts.push(with(line, frame));
         }
     }
+}
+
+/// Refusal 2: a ninth task of either kind, whatever its length and its numbers.
+fn ninth_tasks(texts: &mut Vec<Vec<u8>>) {
     let eight = task(&[(1, 1)], &[]).repeat(8);
     for ninth in ["", "00\n", "010100\n", "01\n", "010000\n", "01ffff\n"] {
         texts.push((eight.clone() + ninth).into_bytes());
     }
-    texts.push((eight + &task(&[(1, 1)], &[]) + "00\n").into_bytes());
+    for ninth in ["0401000001\n", "04\n", "0400000000\n", "04ffffffff\n"] {
+        texts.push((eight.clone() + ninth).into_bytes());
+    }
+    let [plain, masked] = [task(&[(1, 1)], &[]), masked_task(1, &[(1, 1)], &[])];
+    texts.push((eight.clone() + &plain + "00\n").into_bytes());
+    texts.push((eight + &masked + "00\n").into_bytes());
+    for count in [8, 9] {
+        texts.push((masked.repeat(count) + "00\n").into_bytes());
+    }
 }
 
 /// Refusal 3 in a task frame: the counts of vertices and edges.
@@ -93,6 +129,61 @@ fn counts(texts: &mut Vec<Vec<u8>>) {
     for count in [0, 1, 32, 33, 36] {
         let edges: Vec<_> = (0..count).map(|n| (n / 6, n % 6, 1)).collect();
         texts.push((task(&[(1, 1); 6], &edges) + "00\n").into_bytes());
+    }
+}
+
+/// Refusal 3 for a masked length: out of its bounds, and above the largest e, wherever that is.
+fn masked_lengths(texts: &mut Vec<Vec<u8>>) {
+    for m in [0, 1, 1_000, 1_001, 65_535] {
+        texts.push((masked_task(m, &[(1_000, 1)], &[]) + "00\n").into_bytes());
+        let below = masked_task(m, &[(999, 1)], &[]) + "00\n";
+        texts.push(below.clone().into_bytes());
+        texts.push((task(&[(1_000, 1)], &[]) + &below).into_bytes());
+    }
+    for largest in 0..3 {
+        let mut vertices = [(3, 9); 3];
+        vertices[largest].0 = 7;
+        for m in [4, 7, 8] {
+            texts.push((masked_task(m, &vertices, &[(0, 0, 9)]) + "00\n").into_bytes());
+        }
+    }
+    for (vertices, edges) in [(0, 0), (13, 0), (1, 33), (0, 255)] {
+        texts.push(masked_task_line(vertices, edges, 1).into_bytes());
+    }
+}
+
+/// Other faults in a task whose masked length is the largest e, and in one whose masked length is too large.
+fn faults_beside_m(texts: &mut Vec<Vec<u8>>) {
+    for first in [MASKED_LINES[0], "0403020003\n"] {
+        let mut push = |line: usize, faulty: &str| {
+            let mut lines = MASKED_LINES;
+            lines[0] = first;
+            lines[line - 1] = faulty;
+            texts.push(lines.concat().into_bytes());
+        };
+        push(1, first);
+        for line in [3, 4] {
+            for faulty in ["02000200060\n", "02000200\n", "0200000006\n"] {
+                push(line, faulty);
+            }
+            for task in ["010100\n", "0401000001\n"] {
+                push(line, task);
+            }
+        }
+        push(4, "02000100c9\n");
+        for faulty in [
+            "03\r\n",
+            "0401000001\n",
+            "0300030005\n",
+            "0300010004\n",
+            "0300000005\n",
+        ] {
+            push(6, faulty);
+        }
+        for read in 1..=4 {
+            let lines = [&[first], &MASKED_LINES[1..read]].concat();
+            texts.push(lines.concat().into_bytes());
+        }
     }
 }
 
@@ -139,7 +230,7 @@ fn edges(texts: &mut Vec<Vec<u8>>) {
     }
 }
 
-/// Refusals 6 and 7, the bench's R1 and R2, and the longest text.
+/// Refusals 6 and 7, the bench's R1 and R2, and the longest texts.
 fn ends(texts: &mut Vec<Vec<u8>>) {
     for more in [
         "\n", "\0", "0", "00", "00\n", "zz\n", "010101\n", "\r\n", " ",
@@ -152,12 +243,12 @@ fn ends(texts: &mut Vec<Vec<u8>>) {
     for last_e in [2, 1] {
         texts.push(bench::r1(last_e).into_bytes());
     }
-    texts.push(longest().into_bytes());
-    texts.push((longest() + "\n").into_bytes());
-}
-
-/// The longest valid text.
-pub fn longest() -> String {
     let edges: Vec<_> = (0..32).map(|n| (n / 12, n % 12, 1_000)).collect();
-    task(&[(1_000, 200); 12], &edges).repeat(8) + "00\n"
+    let vertices = [(1_000, 200); 12];
+    // Without masked lengths, and with them.
+    let longest = task(&vertices, &edges).repeat(8) + "00\n";
+    texts.push(longest.into_bytes());
+    let longest = masked_task(1_000, &vertices, &edges).repeat(8) + "00\n";
+    texts.push(longest.clone().into_bytes());
+    texts.push((longest + "\n").into_bytes());
 }

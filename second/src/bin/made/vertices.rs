@@ -1,9 +1,11 @@
 //! Cases of one vertex each, for any call that judges one.
 //!
-//! The bench examples, every refusal, and random tables with budgets and areas around what they need.
+//! The bench examples, masked lengths, every refusal, and random tables with budgets and areas around what they need.
 
-use super::bench::{r1, r10, r10_texts, r3, r4, r5, r7, R11_TEXTS};
-use super::{edge_line, random_task, self_edge, task, text, vertex_line, Random, Size};
+use super::bench::{masked_texts, r1, r10, r10_texts, r3, r4, r5, r7, R11_TEXTS};
+use super::{
+    edge_line, masked_task, random_task, self_edge, task, text, vertex_line, Random, Size,
+};
 use second::case::{Case, FINISH};
 use second::judge::{judge, Verdict};
 use second::latest::latest;
@@ -93,6 +95,37 @@ impl Vertices {
         }
     }
 
+    /// R2 with a masked length below it or above it; e + B around d, the largest m, the largest of several, and another count and choice with another B.
+    pub fn masked(&mut self) {
+        for (text, judged) in masked_texts().iter().zip([2, 2, 3, 3]) {
+            self.push(text, (judged, 0), 100_000, (40, 30));
+        }
+        let masking = |m: u32| masked_task(m, &[(m, 50)], &[]);
+        let alone = text(&[task(&[(1, 5), (3, 5), (4, 5)], &[]), masking(2)]);
+        for vertex in 0..3 {
+            self.push(&alone, (0, vertex), 1, (0, 0));
+        }
+        let longest = text(&[task(&[(1_000, 200)], &[]), masking(1_000)]);
+        self.push(&longest, (0, 0), 1, (0, 0));
+        let each_masks: Vec<_> = [4, 1, 3, 2, 2, 7, 1, 1].map(masking).into();
+        for number in 0..8 {
+            self.push(&text(&each_masks), (number, 0), 1, MOST_CELLS);
+        }
+        for d in [5, 4] {
+            let above = task(&[(1, 5), (3, 5)], &[]);
+            self.at_count(&text(&[above, task(&[(1, d)], &[]), masking(1)]), (1, 0));
+        }
+        for m in [1, 3, 4] {
+            let above = task(&[(3, 10), (1, 4), (4, 10)], &[(1, 2, 4)]);
+            self.at_count(&text(&[above, task(&[(1, 9)], &[]), masking(m)]), (1, 0));
+        }
+        // As in `large`, with p, d and what is judged one tick longer, and that tick masked.
+        let mut tasks = vec![task(&[(1, 9); 2], &[]); 4];
+        tasks.push(task(&[(3, 9), (1, 7), (4, 9)], &[(1, 2, 7)]));
+        tasks.extend([task(&[(1, 10)], &[]), masking(1)]);
+        self.at_count(&text(&tasks), (5, 0));
+    }
+
     /// Refusal 9: the lowest-numbered task, and higher tasks only.
     pub fn many_paths(&mut self) {
         let below = task(&[(1, 31)], &[]);
@@ -123,6 +156,8 @@ impl Vertices {
             whole.replace("0300000005", &edge_line(0, 1, 5)[..10]),
             self_edge(2, 5, 4) + "00\n",
             task(&[(1, 5); 2], &[(1, 0, 5), (0, 1, 5)]) + "00\n",
+            masked_task(0, &[(1, 5)], &[]) + "00\n",
+            masked_task(2, &[(1, 5)], &[]) + "00\n",
             whole.clone(),
             whole.clone() + "010101\n",
             whole.clone() + "00\n\n",
@@ -230,7 +265,7 @@ impl Vertices {
         }
     }
 
-    /// Vertices of random tables, each added in this way: of each verdict so many whose count is 1, small, or larger.
+    /// Vertices of random tables, most with a masked length below them, each added in this way: of each verdict so many whose count is 1, small, or larger.
     pub fn random(
         &mut self,
         seed: u64,
@@ -244,8 +279,8 @@ impl Vertices {
             let tasks: Vec<_> = (0..2 + random.below(4))
                 .map(|_| random_task(&mut random, &SIZE))
                 .collect();
-            let text = text(&tasks);
             let numbers = (tasks.len() as u8 - 1, 0);
+            let text = text(&[tasks, random_lower(&mut random)].concat());
             let left = match self.needed(&text, numbers, LARGEST_COUNT) {
                 (_, (work, _)) if work > MOST_CELLS.0 => continue,
                 (Verdict::Meets { count }, _) => &mut meeting[size(count)],
@@ -258,6 +293,21 @@ impl Vertices {
             }
         }
     }
+}
+
+/// Random tasks below a judged one: none to two, most with a masked length.
+fn random_lower(random: &mut Random) -> Vec<String> {
+    let one = |random: &mut Random| {
+        let e = 1 + random.below(SIZE.e);
+        let m = random.below(1 + e) as u32;
+        let vertex = [(e as u32, 9)];
+        match m {
+            0 => task(&vertex, &[]),
+            _ => masked_task(m, &vertex, &[]),
+        }
+    };
+    let count = [0, 1, 1, 2][random.below(4)];
+    (0..count).map(|_| one(random)).collect()
 }
 
 /// What the call of its mode says of a case.
