@@ -10,21 +10,22 @@
  *
  * The calls keep nothing from one to the next, allocate nothing and need of the C library memcpy and memset alone.
  *
- * Every call answers whatever the bytes, numbers, budget and lengths are. What a pointer leads to is the host's duty, since no call can see it:
+ * Every call answers whatever the bytes, cells, numbers, budget and lengths are. What a pointer leads to is the host's duty, since no call can see it:
  *   - an area has as many elements as its length says, each of its type and aligned for it; an area of length 0 may have a null pointer;
  *   - `value`, `place` and `finish` each lead to one number, and are never null;
  *   - what a call may write (work, witness, out, value, place, finish) overlaps nothing else that is lent to the same call, and nobody else reads or
- *     writes it until the call returns; nobody writes the text until then. */
+ *     writes it until the call returns; nobody writes the text or the cells of a table until then. */
 #ifndef TECTAVIRIO_H
 #define TECTAVIRIO_H
 
 #include <stddef.h>
 #include <stdint.h>
 
-/* The bounds: how many tasks a table has and vertices a task, the largest d, how many complete paths a higher task may have, and the longest input of the
- * desk program in bytes. */
+/* The bounds: how many tasks a table has, vertices and edges a task, the largest d, how many complete paths a higher task may have, and the longest input
+ * of the desk program in bytes. */
 #define TECTAVIRIO_MOST_TASKS 8
 #define TECTAVIRIO_MOST_VERTICES 12
+#define TECTAVIRIO_MOST_EDGES 32
 #define TECTAVIRIO_LARGEST_D 200
 #define TECTAVIRIO_MOST_PATHS 64
 #define TECTAVIRIO_LONGEST_INPUT 8191
@@ -34,8 +35,14 @@
 #define TECTAVIRIO_MOST_WORK (TECTAVIRIO_LARGEST_D * TECTAVIRIO_MOST_HIGHER * (2 * TECTAVIRIO_MOST_PATHS - 1))
 #define TECTAVIRIO_MOST_WITNESS (TECTAVIRIO_MOST_HIGHER * (1 + TECTAVIRIO_LARGEST_D))
 
-/* The bytes of an output line with so many bytes in its frame: two digits for each, and the line feed. */
+/* The bytes of a line with so many bytes in its frame: two digits for each, and the line feed. */
 #define TECTAVIRIO_LINE(frame_bytes) (2 * (frame_bytes) + 1)
+
+/* Room for any table: as its text, each task with a line for itself, its masked length in it, and one for each vertex and edge, then the end; and as cells,
+ * each task with three for itself, two for each vertex and three for each edge. */
+#define TECTAVIRIO_LONGEST_TASK (TECTAVIRIO_LINE(5) + TECTAVIRIO_MOST_VERTICES * TECTAVIRIO_LINE(5) + TECTAVIRIO_MOST_EDGES * TECTAVIRIO_LINE(5))
+#define TECTAVIRIO_LONGEST_TEXT (TECTAVIRIO_MOST_TASKS * TECTAVIRIO_LONGEST_TASK + TECTAVIRIO_LINE(1))
+#define TECTAVIRIO_MOST_CELLS (TECTAVIRIO_MOST_TASKS * (3 + 2 * TECTAVIRIO_MOST_VERTICES + 3 * TECTAVIRIO_MOST_EDGES))
 
 /* Room for any output of the desk program: for each vertex its verdict's line and one for the longest path of each higher task, then the four counts. */
 #define TECTAVIRIO_LONGEST_VERTEX (TECTAVIRIO_LINE(8) + TECTAVIRIO_MOST_HIGHER * TECTAVIRIO_LINE(3 + TECTAVIRIO_LARGEST_D))
@@ -45,7 +52,8 @@
 extern "C" {
 #endif
 
-/* The refusal sheet's numbers. Each is returned with a place: the line, counted from 1 (1 to 7), zero (8, 12), the task (9), the cells needed (10, 11). */
+/* The refusal sheet's numbers. Each is returned with a place: the line, counted from 1 (1 to 7), zero (8, 12), the task (9), the cells needed (10, 11),
+ * or the bytes needed for a text that is to be written (10). */
 enum tectavirio_refusal {
     TECTAVIRIO_BAD_LINE = 1,
     TECTAVIRIO_WRONG_FRAME = 2,
@@ -56,7 +64,7 @@ enum tectavirio_refusal {
     TECTAVIRIO_BYTES_AFTER_END = 7,
     TECTAVIRIO_NO_SUCH_VERTEX = 8, /* or no such task */
     TECTAVIRIO_TOO_MANY_PATHS = 9,
-    TECTAVIRIO_WORK_TOO_SHORT = 10,
+    TECTAVIRIO_WORK_TOO_SHORT = 10, /* or the area of a text that is to be written */
     TECTAVIRIO_WITNESS_TOO_SHORT = 11,
     TECTAVIRIO_INPUT_TOO_LONG = 12 /* the desk program's alone */
 };
@@ -127,6 +135,44 @@ static inline unsigned tectavirio_judged_refusing(uint64_t judged) { return (uns
 /* Writes the desk program's output for an input, its frames as lines of hexadecimal, from the front of `out`, and gives its length in bytes. All else in
  * `out` is unchanged. An `out` shorter than TECTAVIRIO_LONGEST_OUTPUT is left as it is, and the length is 0. */
 size_t tectavirio_desk_output(const uint8_t *text, size_t text_bytes, uint8_t *out, size_t out_bytes);
+
+/* Writes a table that is built in memory as the text that reads as this table, from the front of `out`. The table is one list of 16-bit cells, task after
+ * task, the highest priority first, until the list ends. A task is its number of vertices, its number of edges and its masked length m, 0 for none; then
+ * its vertices, e and d each; then its edges, from, to and p each, in order of from and then to, no two with both the same. A table of one task, as 13
+ * cells and as the text that is written for them:
+ *
+ *     2, 2, 3,    0402020003    two vertices, two edges, m = 3; with m = 0 this line is 010202
+ *     4, 5,       0200040005    vertex 0: e = 4, d = 5
+ *     2, 9,       0200020009    vertex 1: e = 2, d = 9
+ *     0, 1, 7,    0300010007    an edge from 0 to 1, p = 7
+ *     1, 0, 9     0301000009    an edge from 1 to 0, p = 9
+ *                 00            the end
+ *
+ * Every cell counts: a list that ends inside a task has 0 for the cells that it lacks, which some rule always refuses; cells behind the last task are a
+ * further task, so that zeros there are refused too; and a list that is cut between two tasks is the shorter table.
+ *
+ * Written, the answer is the number of bytes of the text, below 4,294,967,296, and all else in `out` is unchanged. Refused, it is the refusal's number
+ * x 4,294,967,296 + what is returned with it, and nothing in `out` is changed:
+ *
+ *   refusal   returned with it             why
+ *   2         line 1, the ninth's line     there is no task; there are more than eight
+ *   3         the task's line              0 vertices or more than 12, more than 32 edges, or m above 1,000
+ *   3         the vertex's line            e or d is outside its bounds
+ *   3         the last vertex's line       m is above the task's largest e
+ *   3         the edge's line              the task hasn't the vertex from or to, or p is outside its bounds
+ *   4         the edge's line              d of the vertex from is above p
+ *   5         the edge's line              the edge doesn't come after the one before it in its task
+ *   10        the bytes needed             no rule is broken, and `out` is shorter than the text
+ *
+ * A line is the one that the frame would have in the text, counted from 1; the first at fault decides, and in one line 3 goes before 4, 4 before 5. An
+ * `out` of TECTAVIRIO_LONGEST_TEXT bytes is never too short. */
+uint64_t tectavirio_write(const uint16_t *cells, size_t cell_count, uint8_t *out, size_t out_bytes);
+
+/* What a written table's number holds: the refusal, 0 for a table that was written, and its place, the line or the bytes needed, where there is a refusal;
+ * the bytes of the text, where there is none. */
+static inline unsigned tectavirio_written_refusal(uint64_t written) { return (unsigned)(written / 4294967296); }
+static inline unsigned tectavirio_written_place(uint64_t written) { return (unsigned)(written % 4294967296); }
+static inline size_t tectavirio_written_bytes(uint64_t written) { return (size_t)(written % 4294967296); }
 
 #ifdef __cplusplus
 }

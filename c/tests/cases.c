@@ -1,16 +1,21 @@
 /* The calls from C, on the cases of the proved program of this name: the text check (c), one vertex (v), how late its latest is (f) and a whole table (t)
- * on marked areas, and the desk's output (d). What is written for a case is what that program writes for it. With a word on the command line the text
- * check is the reader's own.
+ * on marked areas, the desk's output (d), and a table in cells, written to a marked area (k). What is written for a case is what that program writes for
+ * it. With a word on the command line the text check is the reader's own.
  *
- * Before a judging call each cell holds its own mark, a number that no judge writes; its line has what the call left in its areas. */
+ * Before a judging call each cell holds its own mark, a number that no judge writes; its line has what the call left in its areas. So does each byte before
+ * a table is written: its mark is larger than any byte of a text. */
 #include "sequence.h"
 #include "tectavirio.h"
 
-/* As many cells are lent at most, a hundred more than any vertex needs, and so many are behind them that no call may touch. */
+/* As many cells are lent at most, a hundred more than any vertex needs, and so many are behind them that no call may touch; a text's area has as many bytes
+ * as there are work cells. */
 enum { MOST_WORK = TECTAVIRIO_MOST_WORK + 100, MOST_WITNESS = TECTAVIRIO_MOST_WITNESS + 100, BEHIND = 64 };
 
 static const uint32_t WORK_MARK = 0xa5a50000;
 static const uint16_t WITNESS_MARK = 0x5a00;
+
+/* The first byte's mark, and how many there are; they count on, and start again. */
+enum { FIRST_MARK = 0x80, MARKS = 97 };
 
 struct one_case {
     uint8_t mode;
@@ -23,6 +28,7 @@ struct one_case {
 
 static uint32_t work[MOST_WORK + BEHIND];
 static uint16_t witness[MOST_WITNESS + BEHIND];
+static uint8_t area[MOST_WORK + BEHIND];
 
 static size_t at_most(size_t n, size_t most) {
     return n < most ? n : most;
@@ -134,6 +140,43 @@ static void write_output(const struct one_case *c) {
     fwrite(out, 1, written, stdout);
 }
 
+static uint8_t byte_mark(size_t i) {
+    return (uint8_t)(FIRST_MARK + i % MARKS);
+}
+
+/* How many bytes stand before the area's first that holds its mark, whether all behind them, lent or not, hold theirs, and, behind the line, those bytes
+ * as they are. */
+static void put_area(size_t bytes) {
+    size_t front = 0, i;
+    while (front < bytes && area[front] != byte_mark(front)) {
+        front++;
+    }
+    for (i = front; i < bytes + BEHIND && area[i] == byte_mark(i); i++) {
+    }
+    put(front, 4);
+    put(i == bytes + BEHIND, 1);
+    puts("");
+    fwrite(area, 1, front, stdout);
+}
+
+/* 00 and the bytes written, or the refusal's number and its place, and what the call left in the area. The text is the cells, each with the high byte
+ * first; a last odd byte is ignored. */
+static void write_table(const struct one_case *c) {
+    static uint16_t cells[MOST_BYTES / 2];
+    size_t count = c->length / 2, bytes = c->work_cells;
+    for (size_t i = 0; i < count; i++) {
+        cells[i] = (uint16_t)(c->text[2 * i] << 8 | c->text[2 * i + 1]);
+    }
+    for (size_t i = 0; i < bytes + BEHIND; i++) {
+        area[i] = byte_mark(i);
+    }
+    uint64_t written = tectavirio_write(count ? cells : NULL, count, bytes ? area : NULL, bytes);
+    unsigned refusal = tectavirio_written_refusal(written);
+    put(refusal, 1);
+    put(refusal == 0 ? tectavirio_written_bytes(written) : tectavirio_written_place(written), 4);
+    put_area(bytes);
+}
+
 static void answer(const struct one_case *c) {
     switch (c->mode) {
     case 'c': check_text(c); break;
@@ -141,6 +184,7 @@ static void answer(const struct one_case *c) {
     case 'f': judge_vertex(c); break;
     case 't': judge_whole(c); break;
     case 'd': write_output(c); break;
+    case 'k': write_table(c); break;
     default: printf("no such mode: %02x\n", c->mode);
     }
 }

@@ -6,9 +6,11 @@
 #include <stdio.h>
 #include <stdlib.h>
 
+enum { MOST_BYTES = 1 << 20 };
+
 /* The whole input, and how far it has been taken. */
 struct sequence {
-    uint8_t bytes[1 << 20];
+    uint8_t bytes[MOST_BYTES];
     size_t count, at;
 };
 

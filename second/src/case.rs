@@ -1,10 +1,12 @@
 //! What is asked of a text, with all that is lent for it, and what is answered.
 
+use crate::area::written;
 use crate::bounds::{BUDGET, WITNESS_CELLS};
-use crate::desk::{self, counts, write_bytes};
+use crate::desk::{self, counts, write_bytes, write_number};
 use crate::judge::{judge, Counts, Verdict};
 use crate::latest::latest;
 use crate::list::list;
+use crate::record::Record;
 use crate::table::{TaskNo, Ticks, VertexNo};
 use crate::text;
 use crate::words::{words, words_with_why};
@@ -32,6 +34,12 @@ pub const FINISHES: u8 = b'g';
 pub const WORDS: u8 = b'w';
 /// The words for people with the releases that make each meets so late, and an empty line.
 pub const WHY: u8 = b'y';
+/// A record of the fixed layout, written to a marked area.
+pub const RECORD: u8 = b'r';
+/// A list of cells, written to a marked area.
+pub const CELLS: u8 = b'k';
+/// The text's table, written back to a marked area.
+pub const BACK: u8 = b'b';
 
 /// The first work cell's mark; the next ones count on. No load is as large.
 const WORK_MARK: u32 = 0xa5a5_0000;
@@ -49,7 +57,7 @@ pub struct Case {
     pub vertex: u8,
     /// The budget.
     pub budget: u32,
-    /// The cells of the work area.
+    /// The cells of the work area; of what is written, the bytes of its area.
     pub work: u32,
     /// The cells of the witness area.
     pub witness: u32,
@@ -115,6 +123,9 @@ impl Case {
             FINISHES => finishes(&self.text, work) + "\n",
             WORDS => words(&self.text) + "\n",
             WHY => words_with_why(&self.text) + "\n",
+            RECORD => return written(&Record::laid_out(&self.text), self.work, 1),
+            CELLS => return written(&Record::of_cells(&self.text), self.work, 1),
+            BACK => return self.written_back(),
             mode => format!("no such mode: {mode:02x}\n"),
         };
         answer.into_bytes()
@@ -165,6 +176,14 @@ impl Case {
         write_work(&mut line, &work);
         line.push('\n');
         line
+    }
+
+    /// Writes the text's table to a marked area, as many times as the budget says; of a refused text, the line of its check.
+    fn written_back(&self) -> Vec<u8> {
+        match text::read(&self.text) {
+            Ok(table) => written(&Record::from(&table), self.work, self.budget),
+            Err(_) => desk::check(&self.text).into_bytes(),
+        }
     }
 
     /// A work area of the case's length, each cell with its mark.
@@ -232,10 +251,4 @@ fn write_witness(line: &mut String, witness: &[u16]) {
     for cell in &witness[..front] {
         write_bytes(line, &cell.to_be_bytes());
     }
-}
-
-/// Writes a number of cells or a place in 4 bytes.
-fn write_number(line: &mut String, number: usize) {
-    // Areas and texts are far shorter than 4 bytes can count.
-    write_bytes(line, &(number as u32).to_be_bytes());
 }

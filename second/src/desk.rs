@@ -120,3 +120,9 @@ pub(crate) fn write_bytes(lines: &mut String, bytes: &[u8]) {
         lines.push(DIGITS[usize::from(byte % 16)]);
     }
 }
+
+/// Writes a number of cells or bytes, or a place, in 4 bytes.
+pub(crate) fn write_number(lines: &mut String, number: usize) {
+    // Areas and texts are no longer than 4 bytes can count.
+    write_bytes(lines, &(number as u32).to_be_bytes());
+}

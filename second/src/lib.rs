@@ -1,10 +1,11 @@
-//! A second deadline judge, written from document 01 and wishes 1 and 3 of document 02 alone.
+//! A second deadline judge, written from document 01 and wishes 1, 3 and 4 of document 02 alone.
 //!
 //! It is compared with the proved program and shares nothing with it.
 
 #![forbid(unsafe_code)]
 #![warn(missing_docs)]
 
+pub mod area;
 pub mod bounds;
 pub mod case;
 pub mod desk;
@@ -12,9 +13,12 @@ pub mod judge;
 pub mod latest;
 pub mod list;
 pub mod paths;
+pub mod record;
 pub mod refusal;
+mod rules;
 pub mod sequence;
 pub mod table;
 pub mod text;
 mod walk;
 pub mod words;
+pub mod write;

@@ -21,7 +21,7 @@ pub enum Row {
     NoVertex = 8,
     /// Some higher task has too many complete paths.
     ManyPaths = 9,
-    /// The work area is too short.
+    /// The work area, or the byte area lent to the writer, is too short.
     WorkArea = 10,
     /// The witness area is too short.
     WitnessArea = 11,
@@ -34,7 +34,7 @@ pub enum Row {
 pub struct Refusal {
     /// The row of the sheet.
     pub row: Row,
-    /// The line, the task, the cells needed, or zero.
+    /// The line, the task, the cells or bytes needed, or zero.
     pub place: usize,
 }
 

@@ -3,7 +3,7 @@
 use std::ops::Add;
 
 /// A count of ticks.
-#[derive(Clone, Copy, Debug, PartialEq, Eq, PartialOrd, Ord)]
+#[derive(Clone, Copy, Debug, Default, PartialEq, Eq, PartialOrd, Ord)]
 pub struct Ticks(pub u32);
 
 /// A task's number; task 0 has the highest priority.
@@ -11,7 +11,7 @@ pub struct Ticks(pub u32);
 pub struct TaskNo(pub u16);
 
 /// A vertex's number in its task, from 0.
-#[derive(Clone, Copy, Debug, PartialEq, Eq, PartialOrd, Ord)]
+#[derive(Clone, Copy, Debug, Default, PartialEq, Eq, PartialOrd, Ord)]
 pub struct VertexNo(pub u16);
 
 /// The tasks, in priority order.

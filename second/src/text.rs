@@ -1,8 +1,9 @@
 //! Reading a text into a table, or into one of the refusals 1 to 7.
 
-use crate::bounds::{D, E, EDGES, M, P, TASKS, VERTICES};
 use crate::bounds::{EDGE_FRAME, END_FRAME, MASKED_TASK_FRAME, TASK_FRAME, VERTEX_FRAME};
+use crate::record::{EdgeRecord, VertexRecord};
 use crate::refusal::{Refusal, Row};
+use crate::rules::{self, Kept};
 use crate::table::{Edge, Table, Task, Ticks, Vertex, VertexNo};
 
 /// Reads a text: its table, or the refusal of its first faulty line.
@@ -11,18 +12,20 @@ pub fn read(text: &[u8]) -> Result<Table, Refusal> {
     let mut tasks = Vec::new();
     loop {
         match *lines.next_frame()? {
-            [TASK_FRAME, vertices, edges] if tasks.len() < TASKS => {
+            [TASK_FRAME, vertices, edges] => {
+                lines.keep(rules::another_task(tasks.len()))?;
                 tasks.push(read_task(&mut lines, vertices, edges, Ticks(0))?);
             }
-            [MASKED_TASK_FRAME, vertices, edges, m_high, m_low] if tasks.len() < TASKS => {
-                let m = u16::from_be_bytes([m_high, m_low]);
-                if !M.contains(&m) {
-                    return Err(lines.refuse(Row::Number));
-                }
-                let m = Ticks(u32::from(m));
+            [MASKED_TASK_FRAME, vertices, edges, m_high, m_low] => {
+                lines.keep(rules::another_task(tasks.len()))?;
+                let m = ticks(m_high, m_low);
+                lines.keep(rules::masked_length(m))?;
                 tasks.push(read_task(&mut lines, vertices, edges, m)?);
             }
-            [END_FRAME] if !tasks.is_empty() => break,
+            [END_FRAME] => {
+                lines.keep(rules::end(tasks.len()))?;
+                break;
+            }
             _ => return Err(lines.refuse(Row::Frame)),
         }
     }
@@ -32,9 +35,7 @@ pub fn read(text: &[u8]) -> Result<Table, Refusal> {
 
 /// Reads on after a task frame's bytes: the task's vertices, which decide whether m is too large, then its edges.
 fn read_task(lines: &mut Lines, vertices: u8, edges: u8, m: Ticks) -> Result<Task, Refusal> {
-    if !VERTICES.contains(&vertices) || !EDGES.contains(&edges) {
-        return Err(lines.refuse(Row::Number));
-    }
+    lines.keep(rules::counts(usize::from(vertices), usize::from(edges)))?;
     let mut task = Task {
         m,
         vertices: Vec::with_capacity(usize::from(vertices)),
@@ -42,9 +43,8 @@ fn read_task(lines: &mut Lines, vertices: u8, edges: u8, m: Ticks) -> Result<Tas
     for _ in 0..vertices {
         task.vertices.push(read_vertex(lines)?);
     }
-    if task.vertices.iter().all(|vertex| vertex.e < m) {
-        return Err(lines.refuse(Row::Number));
-    }
+    let e = task.vertices.iter().map(|vertex| vertex.e);
+    lines.keep(rules::largest_e(m, e))?;
     let mut before = None;
     for _ in 0..edges {
         before = Some(read_edge(lines, &mut task, before)?);
@@ -57,44 +57,36 @@ fn read_vertex(lines: &mut Lines) -> Result<Vertex, Refusal> {
     let &[VERTEX_FRAME, e_high, e_low, d_high, d_low] = lines.next_frame()? else {
         return Err(lines.refuse(Row::Frame));
     };
-    let e = u16::from_be_bytes([e_high, e_low]);
-    let d = u16::from_be_bytes([d_high, d_low]);
-    if !E.contains(&e) || !D.contains(&d) {
-        return Err(lines.refuse(Row::Number));
-    }
-    Ok(Vertex {
-        e: Ticks(u32::from(e)),
-        d: Ticks(u32::from(d)),
-        edges: Vec::new(),
-    })
+    let [e, d] = [ticks(e_high, e_low), ticks(d_high, d_low)];
+    lines.keep(rules::vertex(VertexRecord { e, d }))?;
+    let edges = Vec::new();
+    Ok(Vertex { e, d, edges })
 }
 
-/// Reads an edge frame into its task; gives the edge's (from, to).
+/// Reads an edge frame into its task; gives the edge.
 fn read_edge(
     lines: &mut Lines,
     task: &mut Task,
-    before: Option<(u8, u8)>,
-) -> Result<(u8, u8), Refusal> {
+    before: Option<EdgeRecord>,
+) -> Result<EdgeRecord, Refusal> {
     let &[EDGE_FRAME, from, to, p_high, p_low] = lines.next_frame()? else {
         return Err(lines.refuse(Row::Frame));
     };
-    let p = u16::from_be_bytes([p_high, p_low]);
-    if usize::from(to) >= task.vertices.len() || !P.contains(&p) {
-        return Err(lines.refuse(Row::Number));
-    }
-    let Some(start) = task.vertices.get_mut(usize::from(from)) else {
-        return Err(lines.refuse(Row::Number));
+    let edge = EdgeRecord {
+        from: VertexNo(u16::from(from)),
+        to: VertexNo(u16::from(to)),
+        p: ticks(p_high, p_low),
     };
-    let p = Ticks(u32::from(p));
-    if start.d > p {
-        return Err(lines.refuse(Row::Deadline));
-    }
-    if before.is_some_and(|before| before >= (from, to)) {
-        return Err(lines.refuse(Row::EdgeOrder));
-    }
-    let to_vertex = VertexNo(u16::from(to));
-    start.edges.push(Edge { to: to_vertex, p });
-    Ok((from, to))
+    let d = |number: VertexNo| Some(task.vertices.get(usize::from(number.0))?.d);
+    lines.keep(rules::edge(edge, before, d))?;
+    let EdgeRecord { to, p, .. } = edge;
+    task.vertices[usize::from(from)].edges.push(Edge { to, p });
+    Ok(edge)
+}
+
+/// The ticks of two bytes.
+fn ticks(high: u8, low: u8) -> Ticks {
+    Ticks(u32::from(u16::from_be_bytes([high, low])))
 }
 
 /// The lines of a text, read from the first.
@@ -141,6 +133,11 @@ impl<'a> Lines<'a> {
             return Err(self.refuse(Row::AfterEnd));
         }
         Ok(())
+    }
+
+    /// Goes on if the line just read keeps a rule, and else refuses it.
+    fn keep(&self, kept: Kept) -> Result<(), Refusal> {
+        kept.map_err(|row| self.refuse(row))
     }
 
     /// A refusal at the line just read.

@@ -22,3 +22,7 @@ mod refusals;
 mod tables;
 mod why;
 mod words;
+mod writing;
+mod writing_cases;
+mod writing_modes;
+mod writing_random;

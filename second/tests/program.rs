@@ -112,7 +112,7 @@ fn tabled_texts() {
 
 #[test]
 fn a_mode_that_there_is_not() {
-    for mode in (0..=255).filter(|mode| !b"cldvftugwy".contains(mode)) {
+    for mode in (0..=255).filter(|mode| !b"cldvftugwyrkb".contains(mode)) {
         let expected = format!("no such mode: {mode:02x}\n");
         assert_eq!(answered_lines(&sequence_of(mode, &[b"00\n"])), expected);
     }
@@ -125,7 +125,7 @@ fn no_cases() {
 
 #[test]
 fn a_broken_sequence() {
-    for mode in *b"cldvftugwy" {
+    for mode in *b"cldvftugwyrkb" {
         let whole = sequence_of(mode, &[b"00\n"]);
         let beginnings = (1..whole.len()).map(|end| whole[..end].to_vec());
         for broken in beginnings.chain([vec![0xff; 4], vec![0xff; 100]]) {

@@ -7,16 +7,21 @@
 //   d  the desk's output (desk.rt)            u  the whole table, unmarked, for docs/COST.md (whole.rt)
 //   f  one vertex and its worst finish, on marked areas (vertex.rt)
 //   g  every vertex of a table with its worst finish, unmarked, for docs/COST.md (finishes.rt)
+//   r  a record, written into a marked area (record.rt)
+//   b  back: the text's table, written into a marked area (back.rt)
 // Any other mode is a line that says so.
 mod areas;
+mod back;
 mod check;
 mod desk;
 mod finishes;
 mod list;
 mod print;
+mod record;
 mod task;
 mod vertex;
 mod whole;
+mod writing;
 
 use crate::print::end_line;
 use sequences::HEADER_BYTES;
@@ -31,6 +36,22 @@ fn say_unknown(mode: u8) {
     io::write_all(1, b"no such mode: ");
     io::print_hex(1, mode as u64, 2);
     end_line();
+}
+
+// The modes that write a table. Any other is none.
+fn answer_writing(header: &[u8], text: &[u8])
+    requires { ⌜ length (now header) ≡ headerBytes ⌝ }
+{
+    let mode = header[0];
+    if mode == b'r' {
+        record::print(header, text);
+        return;
+    }
+    if mode == b'b' {
+        back::print(header, text);
+        return;
+    }
+    say_unknown(mode);
 }
 
 // One case: its header, its text, and an area for any vertex.
@@ -70,7 +91,7 @@ fn answer(header: &[u8], text: &[u8], work: &mut [u32])
         finishes::print(text, work);
         return;
     }
-    say_unknown(mode);
+    answer_writing(header, text);
 }
 
 fn answer_all(bytes: &[u8], work: &mut [u32])

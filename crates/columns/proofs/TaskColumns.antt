@@ -17,8 +17,8 @@ use Rattle.meaning.proofs.Lists.{countFrom-mem}
 use Rattle.table.specs.declared.Vertex.{Vertex}
 use Rattle.table.specs.declared.Edge.{Edge}
 use Rattle.table.specs.declared.Task.{Task}
-use Rattle.table.specs.Record.{noVertex, noEdge}
-use Rattle.table.specs.Inner.{vertexOf, edgeOf, taskOf}
+use Rattle.table.specs.Record.{noVertex, noEdge, vertexOf, edgeOf}
+use Rattle.table.specs.Inner.{taskOf}
 use Rattle.columns.specs.Columns.{executionIn, edgeCell, Ready, edgesOf, SoundColumns, edgeAt, ColumnsOf, Sorted, Cuts}
 use Rattle.meaning.proofs.Stores.{col-more, sets-after}
 

@@ -1,6 +1,6 @@
 -- The paths that cells hold, line by line.
 use mathlib.Core.Path.{_≡_, refl, sym, ap, ap₂, subst, _∙_}
-use Prim.Native.Nat.{ℕ, suc, _+_, _-_, _≤_, _<_}
+use Prim.Native.Nat.{ℕ, suc, _+_, _-_, _%_, _≤_, _<_}
 use native.Mathlib.Omega.{arith}
 use native.Mathlib.Numerals.{add-one}
 use native.Mathlib.Decide.{decLt}
@@ -10,10 +10,28 @@ use lib.Seq.{take-append-seam, drop-append-seam, drop-cons, drop-drop, length-ta
 use Rattle.meaning.specs.Paths.{Path}
 use Rattle.meaning.specs.Verdict.{cellsOf}
 use Rattle.meaning.specs.Areas.{Wrote}
-use Rattle.meaning.specs.Desk.{line, pathFrame}
+use Rattle.meaning.specs.Lists.{gather}
+use Rattle.meaning.specs.Text.{digits, line}
+use Rattle.meaning.specs.Desk.{pathFrame}
+use Rattle.meaning.proofs.TextSize.{line-length}
 use Rattle.meaning.proofs.Wrote.{wrote-none, wrote-then, wrote-length}
 use Rattle.desk_frames.specs.Lines.{pathLine, FitsByte, Bytes, cellPaths, pathLines, WholePaths}
-use Rattle.desk_frames.proofs.Lines.{line-length}
+
+-- ---- a path's frame: its head, then its vertices
+
+-- a number that fits a byte is its own remainder
+pub wrote-low : {n : ℕ} {out after : List ℕ} {at next : ℕ} → FitsByte n
+    → Wrote (digits (n % 256)) out at after next → Wrote (digits n) out at after next
+wrote-low {n} {out} {after} {at} {next} h w = let e : n % 256 ≡ n = omega arith in subst (λ (b : ℕ). Wrote (digits b) out at after next) e w
+
+-- 11, task, length
+abbrev pathHead : ℕ → ℕ → List ℕ
+pathHead i n = 17 ∷ i ∷ n ∷ []
+
+pub head-then : (i : ℕ) (w : Path) {out mid after : List ℕ} {at next last : ℕ}
+    → Wrote (gather digits (pathHead i (length w))) out at mid next → Wrote (gather digits w) mid next after last
+    → Wrote (gather digits (pathFrame i w)) out at after last
+head-then i w a b = wrote-then (gather digits (pathHead i (length w))) (gather digits w) a b
 
 -- ---- the next path of the cells
 

@@ -9,12 +9,12 @@ use Rattle.meaning.specs.Paths.{Path}
 use Rattle.meaning.specs.Whole.{Place}
 use Rattle.meaning.specs.Desk.{verdictFrame}
 use Rattle.meaning.specs.Areas.{Wrote}
+use Rattle.meaning.proofs.TextSize.{line-length}
 use Rattle.meaning.proofs.Wrote.{wrote-then, wrote-length}
 use Rattle.kinds.specs.declared.Verdict.{Verdict}
 use Rattle.kinds.specs.declared.Verdict.the-variants.{Misses}
 use Rattle.kinds.specs.Numbers.{verdictNumbers}
 use Rattle.desk_frames.specs.Lines.{FitsByte, WholePaths, WholeShown, cellPaths, pathLines, shownPaths, shownVerdict, shownLines}
-use Rattle.desk_frames.proofs.Lines.{line-length}
 
 module _ (q : Place) (r : Verdict) (cs : List ℕ) where
   verdict-length : length (shownVerdict q r) ≡ verdictLine

@@ -5,7 +5,8 @@ use lib.ListN.{length, take, drop, getD}
 use Rattle.meaning.specs.Bounds.{lineLength}
 use Rattle.meaning.specs.Paths.{Path}
 use Rattle.meaning.specs.Lists.{gather}
-use Rattle.meaning.specs.Desk.{line, verdictFrame, pathFrames}
+use Rattle.meaning.specs.Text.{line}
+use Rattle.meaning.specs.Desk.{verdictFrame, pathFrames}
 use Rattle.meaning.specs.Whole.{Place}
 use Rattle.kinds.specs.declared.TaskNumber.{TaskNumber}
 use Rattle.kinds.specs.declared.VertexNumber.{VertexNumber}

@@ -2,19 +2,19 @@
 // vertices; last 1f and the four counts. A refused text or input gives only 1e, number, line in 2 bytes."
 //
 // Each function writes lines into a lent area, from a place on, and gives the place behind them.
-mod line;
 mod path;
 
 use kinds::RefusedAt;
 use kinds::TaskNumber;
 use kinds::Verdict;
 use kinds::VertexNumber;
-use line::put_line;
 use path::path_lines;
+use put::put_line;
 ghost use Prim.Native.Nat.{_+_, _≤_};
 ghost use lib.ListN.{length};
 ghost use Rattle.meaning.specs.Bounds.{verdictLine, countsLine};
-ghost use Rattle.meaning.specs.Desk.{line, countsFrame, refusalFrame};
+ghost use Rattle.meaning.specs.Text.{line};
+ghost use Rattle.meaning.specs.Desk.{countsFrame, refusalFrame};
 ghost use Rattle.kinds.specs.Numbers.{refusalNumber};
 ghost use Rattle.desk_frames.specs.Lines.{refusalLine, WholeShown, placeOf, shownVerdict, shownLines};
 ghost use Rattle.meaning.specs.Areas.{Wrote};

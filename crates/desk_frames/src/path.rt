@@ -1,11 +1,12 @@
 // The paths of a miss, out of the witness area: per higher task in order, the path's length and vertices.
-use crate::line::put_byte;
-use crate::line::put_bytes;
+use put::put_byte;
+use put::put_bytes;
 ghost use mathlib.Core.Path.{_≡_};
 ghost use Prim.Native.Nat.{_+_, _*_, _≤_};
 ghost use lib.ListN.{length};
 ghost use Rattle.meaning.specs.Lists.{gather};
-ghost use Rattle.meaning.specs.Desk.{digits, line, pathFrame};
+ghost use Rattle.meaning.specs.Text.{digits, line};
+ghost use Rattle.meaning.specs.Desk.{pathFrame};
 ghost use Rattle.desk_frames.specs.Lines.{pathLine, FitsByte, Bytes, WholePaths, cellPaths, pathLines};
 ghost use Rattle.meaning.specs.Areas.{Wrote};
 
@@ -19,10 +20,11 @@ fn put_vertices(out: &mut [u8], at: usize, vertices: &[u16]) -> usize
     requires { ⌜ (at + 2 * length (now vertices) ≤ length (now out)) × Bytes (now vertices) ⌝ }
     ensures { λ r. ⌜ Wrote (gather digits (now (vertices .entry))) (now (out .entry)) at (now (out .exit)) r ⌝ }
 {
+    let order = put::digits_in_order();
     let mut next = at;
     let mut i = 0;
     while i < vertices.len() {
-        next = put_byte(out, next, (vertices[i] % 256) as u8);
+        next = put_byte(&order, out, next, (vertices[i] % 256) as u8);
         i += 1;
     }
     next

@@ -14,8 +14,8 @@ use Rattle.kinds.specs.declared.Refusal.the-variants.{WrongFrame, OutOfBounds}
 use Rattle.kinds.specs.Numbers.{refusalNumber}
 use Rattle.table.specs.declared.Vertex.{Vertex}
 use Rattle.table.specs.declared.Edge.{Edge}
-use Rattle.table.specs.Record.{noVertex, vertexRecord}
-use Rattle.table.specs.Inner.{edgeCells, verticesRecord, edgeOf}
+use Rattle.table.specs.Record.{noVertex, vertexRecord, edgeOf}
+use Rattle.table.specs.Inner.{edgeCells, verticesRecord}
 use Rattle.frames.specs.declared.EdgeLine.{EdgeLine}
 use Rattle.frames.specs.declared.EdgeLine.the-variants.{EdgeTaken, EdgeRefused}
 use Rattle.digits.specs.Digits.{worthOf, pairAt}

@@ -14,7 +14,8 @@ use Rattle.meaning.proofs.Readable.{readStep}
 use Rattle.kinds.specs.declared.Refusal.the-variants.{WrongFrame, OutOfBounds}
 use Rattle.kinds.specs.Numbers.{refusalNumber}
 use Rattle.table.specs.declared.Vertex.{Vertex}
-use Rattle.table.specs.Inner.{vertexCells, vertexOf}
+use Rattle.table.specs.Record.{vertexOf}
+use Rattle.table.specs.Inner.{vertexCells}
 use Rattle.frames.specs.declared.VertexLine.{VertexLine}
 use Rattle.frames.specs.declared.VertexLine.the-variants.{VertexTaken, VertexRefused}
 use Rattle.digits.specs.Digits.{worthOf, pairAt}

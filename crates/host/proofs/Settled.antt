@@ -1,4 +1,4 @@
--- What a C host is told settles the answer, and a whole table's answer can be taken out of its number: the sentences of `specs/Settled`.
+-- What a C host is told settles the answer, and a whole table's answer and a writing's can be taken out of its number: the sentences of `specs/Settled`.
 use mathlib.Core.Path.{_≡_, refl, sym, ap, subst, _∙_}
 use Prim.Native.Nat.{ℕ, _+_, _*_, _/_, _%_, _≤_}
 use native.Mathlib.Omega.{arith}
@@ -6,14 +6,18 @@ use mathlib.Core.List.{List}
 use lib.ListN.{length, getD}
 use Rattle.meaning.specs.Bounds.{mostTasks, mostVertices}
 use Rattle.meaning.specs.Text.{Reading, readable, unreadable, read}
+use Rattle.meaning.specs.Writing.{Writing, writable, unwritable, writing}
 use Rattle.meaning.specs.Whole.{Counts, counted, countsOf, verdicts, tableAnswer}
 use Rattle.meaning.proofs.Demands.{readable-sound, text-refused}
 use Rattle.meaning.proofs.Counts.{counts-all, vertices-few}
 use Rattle.kinds.specs.Numbers.{verdictNumbers, latenessNumbers}
 use Rattle.counts.specs.Counts.{totalOf}
+use Rattle.writer.proofs.Outcomes.{Bounded, writing-bounded}
+use Rattle.cells.specs.Cells.{cellsTable}
 use Rattle.judge.proofs.Demands.{settled, settled-latest}
-use Rattle.host.specs.Told.{countsNumber, tableNumber}
+use Rattle.host.specs.Told.{countsNumber, tableNumber, writingNumber}
 use Rattle.host.specs.Settled.{VertexToldSettled, LatestToldSettled, TableToldSettled, TakenApart, TableNumberUnpacked}
+use Rattle.host.specs.Settled.{WriteToldSettled, WritingTakenApart, WriteNumberUnpacked}
 
 same-number : {X : Type 0} (numbers : X → List ℕ) {r s : X} (j : ℕ) → r ≡ s → getD (numbers r) j 0 ≡ getD (numbers s) j 0
 same-number {X} numbers j e = ap (λ (r : X). getD (numbers r) j 0) e
@@ -59,3 +63,15 @@ table-unpacked text b work r work′ p =
         let f = vertices-few ts (readable-sound text ts e) in
         counts-unpacked (countsOf (verdicts ts b (length work))) (omega (arith, a, f))
     go (unreadable k n) e = let t = text-refused text k n e in (t .0, omega (arith, t .3), omega (arith, t .3))
+
+pub write-settled : WriteToldSettled
+write-settled cells before r s after other p q = (p .number ∙ sym (q .number), p .area ∙ sym (q .area))
+
+pub write-unpacked : WriteNumberUnpacked
+write-unpacked cells before r after p =
+    let w = writing (cellsTable cells) (length before) in
+    subst (WritingTakenApart w) (sym (p .number)) (go w (writing-bounded (cellsTable cells) (length before)))
+  where
+    go : (w : Writing) → Bounded w → WritingTakenApart w (writingNumber w)
+    go (writable text) b = (omega (arith, b), omega (arith, b))
+    go (unwritable k n) b = (b .0, omega (arith, b .1), omega (arith, b .1))

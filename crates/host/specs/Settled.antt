@@ -4,8 +4,10 @@ use Prim.Native.Nat.{ℕ, _/_, _%_, _≤_}
 use mathlib.Core.List.{List}
 use lib.ListN.{length}
 use Rattle.meaning.specs.Text.{read}
+use Rattle.meaning.specs.Writing.{Writing, writable, unwritable, writing}
 use Rattle.meaning.specs.Whole.{TableAnswer, counted, uncounted, tableAnswer}
-use Rattle.host.specs.Told.{VertexTold, LatestTold, TableTold}
+use Rattle.cells.specs.Cells.{cellsTable}
+use Rattle.host.specs.Told.{VertexTold, LatestTold, TableTold, WriteTold}
 
 -- Two results of a vertex's call coincide, in the three numbers and in every cell of both areas.
 abbrev pub VertexToldSettled : Type 0
@@ -34,3 +36,18 @@ TakenApart (uncounted k n) r = (1 ≤ k) × (r / 4294967296 ≡ k) × (r % 42949
 abbrev pub TableNumberUnpacked : Type 0
 TableNumberUnpacked = (text : List ℕ) (b : ℕ) (work : List ℕ) (r : ℕ) (work′ : List ℕ) → TableTold text b work r work′
     → TakenApart (tableAnswer (read text) b (length work)) r
+
+-- Two results of a writing coincide, in the number and in every byte of the area.
+abbrev pub WriteToldSettled : Type 0
+WriteToldSettled = (cells before : List ℕ) (r s : ℕ) (after other : List ℕ)
+    → WriteTold cells before r after → WriteTold cells before s other → (r ≡ s) × (after ≡ other)
+
+-- the bytes written where the upper half is zero, else the refusal's number and what is returned with it
+abbrev pub WritingTakenApart : Writing → ℕ → Type 0
+WritingTakenApart (writable text) r = (r / 4294967296 ≡ 0) × (r % 4294967296 ≡ length text)
+WritingTakenApart (unwritable k n) r = (1 ≤ k) × (r / 4294967296 ≡ k) × (r % 4294967296 ≡ n)
+
+-- The answer of a writing can be taken out of its number again.
+abbrev pub WriteNumberUnpacked : Type 0
+WriteNumberUnpacked = (cells before : List ℕ) (r : ℕ) (after : List ℕ) → WriteTold cells before r after
+    → WritingTakenApart (writing (cellsTable cells) (length before)) r

@@ -4,10 +4,12 @@ use Prim.Native.Nat.{ℕ, _+_, _*_}
 use mathlib.Core.List.{List}
 use lib.ListN.{length, getD}
 use Rattle.meaning.specs.Text.{read}
+use Rattle.meaning.specs.Writing.{Writing, writable, unwritable, writing, areaAfter}
 use Rattle.meaning.specs.Whole.{Counts, TableAnswer, counted, uncounted, tableAnswer, tableWorkAfter}
 use Rattle.kinds.specs.declared.Verdict.{Verdict}
 use Rattle.kinds.specs.declared.Lateness.{Lateness}
 use Rattle.kinds.specs.Numbers.{verdictNumbers, latenessNumbers}
+use Rattle.cells.specs.Cells.{cellsTable}
 use Rattle.judge.specs.Judged.{Judged, LatestJudged}
 
 -- ---- one vertex
@@ -44,3 +46,15 @@ tableNumber (uncounted k n) = k * 4294967296 + n
 pub record TableTold (text : List ℕ) (b : ℕ) (work : List ℕ) (r : ℕ) (work′ : List ℕ) : Type 0 where
   pub number : r ≡ tableNumber (tableAnswer (read text) b (length work))
   pub cells : work′ ≡ tableWorkAfter (read text) b work
+
+-- ---- a table as text
+
+-- the bytes written in the lower half of 64 bits; a refusal's number in the upper half and what is returned with it in the lower
+abbrev pub writingNumber : Writing → ℕ
+writingNumber (writable text) = length text
+writingNumber (unwritable k n) = k * 4294967296 + n
+
+-- a writing of the table that the cells hold: the area before and after
+pub record WriteTold (cells before : List ℕ) (r : ℕ) (after : List ℕ) : Type 0 where
+  pub number : r ≡ writingNumber (writing (cellsTable cells) (length before))
+  pub area : after ≡ areaAfter (writing (cellsTable cells) (length before)) before

@@ -3,30 +3,35 @@
 //
 // Names that a C program sees start with the project's. A vertex's value, place and finish come back behind pointers, C's way to return more than one
 // number: a count may take 32 bits, and the place beside it has no width of its own.
+use cells::write_cells;
 use counts::Counts;
 use judge::TableVerdict;
 use judge::desk_output;
 use judge::judge;
 use judge::judge_table;
 use judge::latest;
+use kinds::RefusedAt;
 use kinds::TaskNumber;
 use kinds::VertexNumber;
 use kinds::lateness_finish;
 use kinds::lateness_place;
+use kinds::narrow;
 use kinds::refusal_number;
 use kinds::verdict_in;
 use kinds::verdict_number;
 use kinds::verdict_place;
 use kinds::verdict_value;
 use reader::text_check;
+use writer::Written;
 ghost use mathlib.Core.Path.{_≡_};
-ghost use Prim.Native.Nat.{min};
+ghost use Prim.Native.Nat.{_+_, _*_};
 ghost use lib.ListN.{length};
 ghost use Rattle.meaning.specs.Text.{read, packed};
 ghost use Rattle.meaning.specs.Areas.{Wrote};
+ghost use Rattle.kinds.specs.Numbers.{refusalNumber};
 ghost use Rattle.judge.specs.Desk.{outputInto};
 ghost use Rattle.counts.specs.Counts.{meantCounts};
-ghost use Rattle.host.specs.Told.{VertexTold, LatestTold, countsNumber, TableTold};
+ghost use Rattle.host.specs.Told.{VertexTold, LatestTold, countsNumber, TableTold, WriteTold};
 
 // The text check, by the project's name.
 #[no_mangle]
@@ -34,16 +39,6 @@ pub extern "C" fn tectavirio_text_check(text: &[u8]) -> u32
     ensures { λ r. ⌜ r ≡ packed (read (now (text .entry))) ⌝ }
 {
     text_check(text)
-}
-
-// A number in the width of a kind: 255 stands for every number above it, since no table has so many tasks and no task so many vertices.
-fn narrow(n: u32) -> u8
-    ensures { λ r. ⌜ r ≡ min n 255 ⌝ }
-{
-    if n > 255 {
-        return 255;
-    }
-    n as u8
 }
 
 // One vertex of the text's table: gives the verdict's number, 0 meets, 1 misses, 2 unfinished, 3 refused. The value is the count, the budget or the
@@ -113,6 +108,14 @@ fn counts_number(c: Counts) -> u32
         + c.refusing as u32
 }
 
+// Its number in the upper half, and what is returned with it in the lower.
+fn refused_number(at: RefusedAt) -> u64
+    ensures { λ r. ⌜ r ≡ refusalNumber (at .refusal) * 4294967296 + at .place ⌝ }
+{
+    let refusal = at.refusal;
+    refusal_number(refusal) as u64 * 4294967296 + at.place as u64
+}
+
 // The four counts of the text's table, below 4,294,967,296; else the refusal's number x 4,294,967,296 + its line.
 #[no_mangle]
 pub extern "C" fn tectavirio_judge_table(text: &[u8], budget: u32, work: &mut [u32]) -> u64
@@ -121,10 +124,19 @@ pub extern "C" fn tectavirio_judge_table(text: &[u8], budget: u32, work: &mut [u
     let verdict = judge_table(text, budget, work);
     match verdict {
         TableVerdict::Counted(counts) => counts_number(counts) as u64,
-        TableVerdict::Refused(at) => {
-            let refusal = at.refusal;
-            refusal_number(refusal) as u64 * 4294967296 + at.place as u64
-        }
+        TableVerdict::Refused(at) => refused_number(at),
+    }
+}
+
+// A table in cells, written as text: the number of bytes, below 4,294,967,296; else the refusal's number x 4,294,967,296 + what is returned with it.
+#[no_mangle]
+pub extern "C" fn tectavirio_write(cells: &[u16], out: &mut [u8]) -> u64
+    ensures { λ r. ⌜ WriteTold (now (cells .entry)) (now (out .entry)) r (now (out .exit)) ⌝ }
+{
+    let written = write_cells(cells, out);
+    match written {
+        Written::Bytes(n) => n as u64,
+        Written::Refused(at) => refused_number(at),
     }
 }
 

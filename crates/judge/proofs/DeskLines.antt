@@ -11,13 +11,14 @@ use Rattle.meaning.specs.Paths.{Path}
 use Rattle.meaning.specs.Verdict.{Verdict, meets, misses, unfinished, refused, plain}
 use Rattle.meaning.specs.Sound.{SoundTable}
 use Rattle.meaning.specs.Whole.{Place, places, countsOf}
-use Rattle.meaning.specs.Desk.{line, pathFrame, vertexFrames, verdictFrame, countsFrame, deskVerdict, tableFrames}
+use Rattle.meaning.specs.Text.{line}
+use Rattle.meaning.specs.Desk.{pathFrame, vertexFrames, verdictFrame, countsFrame, deskVerdict, tableFrames}
 use Rattle.meaning.proofs.Lists.{gather-append}
 use Rattle.meaning.proofs.Whole.{place-in}
 use Rattle.meaning.proofs.Counts.{places-few}
 use Rattle.meaning.proofs.MissPaths.{Fits, miss-count, miss-fits}
 use Rattle.desk_frames.specs.Lines.{pathLines}
-use Rattle.desk_frames.proofs.Lines.{line-length}
+use Rattle.meaning.proofs.TextSize.{line-length}
 
 -- ---- the lines of vertices, and of a whole table
 

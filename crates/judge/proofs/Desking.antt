@@ -11,7 +11,8 @@ use Rattle.meaning.specs.Areas.{workNeed, Wrote}
 use Rattle.meaning.specs.Judge.{judged}
 use Rattle.meaning.specs.Sound.{SoundTable}
 use Rattle.meaning.specs.Whole.{Place, places, verdictAt, verdicts, countsOf}
-use Rattle.meaning.specs.Desk.{line, countsFrame, deskVerdict}
+use Rattle.meaning.specs.Text.{line}
+use Rattle.meaning.specs.Desk.{countsFrame, deskVerdict}
 use Rattle.meaning.proofs.Lists.{map-mem}
 use Rattle.meaning.proofs.Wrote.{wrote-none, wrote-then, wrote-length}
 use Rattle.meaning.proofs.Whole.{verdict-at, desk-witness}

@@ -11,10 +11,10 @@ use borrow.Author.Tests.{lt-ltb, le-ltb}
 use Rattle.meaning.specs.Lists.{pick, gather}
 use Rattle.meaning.specs.Bounds.{longestInput, longestOutput}
 use Rattle.meaning.specs.Table as Meant
-use Rattle.meaning.specs.Text.{Reading, readable, unreadable, read}
+use Rattle.meaning.specs.Text.{line, Reading, readable, unreadable, read}
 use Rattle.meaning.specs.Sound.{SoundTable}
 use Rattle.meaning.specs.Whole.{places, countsOf}
-use Rattle.meaning.specs.Desk.{line, countsFrame, refusalFrame, deskVerdict, tableFrames, readingFrames, frames, output}
+use Rattle.meaning.specs.Desk.{countsFrame, refusalFrame, deskVerdict, tableFrames, readingFrames, frames, output}
 use Rattle.meaning.proofs.Demands.{readable-sound}
 use Rattle.kinds.specs.declared.RefusedAt.{RefusedAt}
 use Rattle.kinds.specs.Numbers.{refusalNumber}
@@ -22,7 +22,7 @@ use Rattle.table.specs.declared.Table.{Table}
 use Rattle.table.specs.Inner.{tableOf}
 use Rattle.reader.proofs.Result.{TableRead, LineRefused}
 use Rattle.meaning.specs.Areas.{Wrote}
-use Rattle.desk_frames.proofs.Lines.{line-length}
+use Rattle.meaning.proofs.TextSize.{line-length}
 use Rattle.meaning.proofs.Wrote.{wrote-none, wrote-length}
 use Rattle.judge.specs.Desk.{outputInto}
 use Rattle.judge.specs.Settled.{OutputFits}

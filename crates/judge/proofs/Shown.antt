@@ -14,7 +14,8 @@ use Rattle.meaning.specs.Areas.{witnessAfter}
 use Rattle.meaning.specs.Judge.{judged}
 use Rattle.meaning.specs.Sound.{SoundTable}
 use Rattle.meaning.specs.Whole.{Place, places}
-use Rattle.meaning.specs.Desk.{line, verdictFrame, vertexFrames, deskVerdict}
+use Rattle.meaning.specs.Text.{line}
+use Rattle.meaning.specs.Desk.{verdictFrame, vertexFrames, deskVerdict}
 use Rattle.meaning.proofs.Whole.{place-in}
 use Rattle.meaning.proofs.MissPaths.{miss-count, miss-fits}
 use Rattle.kinds.specs.declared.Verdict.{Verdict}

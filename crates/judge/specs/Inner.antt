@@ -5,14 +5,14 @@ use mathlib.Core.List.{List}
 use lib.ListN.{length}
 use Rattle.meaning.specs.Lists.{gather}
 use Rattle.meaning.specs.Table.{Table, taskAt}
-use Rattle.meaning.specs.Text.{read, tasksOf}
+use Rattle.meaning.specs.Text.{line, read, tasksOf}
 use Rattle.meaning.specs.Paths.{Path}
 use Rattle.meaning.specs.Verdict as Said
 use Rattle.meaning.specs.Verdict.{numbers, Asked, plain, latest, deadline, worstAt, meetsPaths}
 use Rattle.meaning.specs.Areas.{zeroed, workNeed, workAfter, witnessAfter}
 use Rattle.meaning.specs.Judge.{judged, answer}
 use Rattle.meaning.specs.Whole as Meant
-use Rattle.meaning.specs.Desk.{line, tableFrames}
+use Rattle.meaning.specs.Desk.{tableFrames}
 use Rattle.kinds.specs.declared.Verdict.{Verdict}
 use Rattle.kinds.specs.Numbers.{verdictNumbers}
 use Rattle.kinds.specs.declared.Lateness.{Lateness}

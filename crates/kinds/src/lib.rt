@@ -2,7 +2,7 @@
 //
 // "A refusal is carried inside the verdict as a number and its place": the verdict's refused case holds the refusal and its line, task or cell count.
 ghost use mathlib.Core.Path.{_≡_};
-ghost use Prim.Native.Nat.{max};
+ghost use Prim.Native.Nat.{min, max};
 ghost use lib.ListN.{getD};
 ghost use Rattle.kinds.specs.Numbers.{refusalNumber, verdictNumbers, verdictIn, latenessNumbers};
 
@@ -11,6 +11,17 @@ pub struct Ticks(pub u16);
 pub struct TaskNumber(pub u8);
 
 pub struct VertexNumber(pub u8);
+
+// A number in the width of a task's or a vertex's number: 255 stands for every number above it, since no table has so many tasks and no task so many
+// vertices.
+pub fn narrow(n: u32) -> u8
+    ensures { λ r. ⌜ r ≡ min n 255 ⌝ }
+{
+    if n > 255 {
+        return 255;
+    }
+    n as u8
+}
 
 pub fn longer(a: Ticks, b: Ticks) -> Ticks
     ensures { λ r. ⌜ r .0 ≡ max (a .0) (b .0) ⌝ }

@@ -11,8 +11,8 @@ use Rattle.kinds.specs.declared.Refusal.{Refusal}
 use Rattle.kinds.specs.Numbers.{refusalNumber}
 use Rattle.table.specs.declared.Vertex.{Vertex}
 use Rattle.table.specs.declared.Edge.{Edge}
-use Rattle.table.specs.Record.{noEdge, edgeRecord}
-use Rattle.table.specs.Inner.{verticesRecord, edgesRecord, edgeOf}
+use Rattle.table.specs.Record.{noEdge, edgeRecord, edgeOf}
+use Rattle.table.specs.Inner.{verticesRecord, edgesRecord}
 use Rattle.frames.specs.declared.EdgeLine.{EdgeLine}
 use Rattle.frames.specs.declared.EdgeLine.the-variants.{EdgeTaken, EdgeRefused}
 use Rattle.lines.specs.declared.EdgeLines.{EdgeLines}

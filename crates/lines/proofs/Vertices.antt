@@ -10,8 +10,8 @@ use Rattle.meaning.specs.Text.{Reading, unreadable}
 use Rattle.kinds.specs.declared.Refusal.{Refusal}
 use Rattle.kinds.specs.Numbers.{refusalNumber}
 use Rattle.table.specs.declared.Vertex.{Vertex}
-use Rattle.table.specs.Record.{noVertex, vertexRecord}
-use Rattle.table.specs.Inner.{verticesRecord, vertexOf}
+use Rattle.table.specs.Record.{noVertex, vertexRecord, vertexOf}
+use Rattle.table.specs.Inner.{verticesRecord}
 use Rattle.frames.specs.declared.VertexLine.{VertexLine}
 use Rattle.frames.specs.declared.VertexLine.the-variants.{VertexTaken, VertexRefused}
 use Rattle.lines.specs.declared.VertexLines.{VertexLines}

@@ -4,7 +4,8 @@ use Prim.Native.Nat.{ℕ}
 use mathlib.Core.List.{List}
 use Rattle.meaning.specs.Table.{Task}
 use Rattle.meaning.specs.Paths.{pathsOf}
-use Rattle.meaning.specs.Sound.{SoundTask, ReadableSound}
+use Rattle.meaning.specs.Sound.{SoundTask}
+use Rattle.meaning.specs.Texts.{ReadableSound}
 use Rattle.meaning.specs.Walk.{WalkSees, OverloadsLate, ChoicesBefore}
 use Rattle.meaning.specs.Demands.{Readable, PathsSuffice, PathsListed, NineOrTen}
 use Rattle.meaning.specs.Text.{unreadable, read}

@@ -2,13 +2,20 @@
 use mathlib.Core.Path.{_≡_, refl, sym, ap, subst, _∙_}
 use Prim.Native.Nat.{ℕ, zero, suc, _+_, _≤_, _<_}
 use native.Mathlib.Omega.{arith}
+use mathlib.Core.Option.{Option}
 use mathlib.Core.List.{List, [], _∷_}
-use lib.ListN.{take}
+use lib.ListN.{length, take}
 use Rattle.meaning.specs.Table.{Table}
 use Rattle.meaning.specs.Text.{Line, linesOf, frameOf, Begun, nothing, Step, on, over, wrong, stepAt, Reading, readable, unreadable, atEnd, readFrom}
-use Rattle.meaning.specs.Text.{read}
+use Rattle.meaning.specs.Text.{framesFrom, read}
 use Rattle.meaning.specs.Texts.{FirstFaulty}
-use Rattle.meaning.proofs.Readable.{readStep, step-read, read-refused}
+use Rattle.meaning.proofs.Readable.{framesStep, step-frames, readStep, step-read, read-refused}
+
+row-is : {j k i n : ℕ} → unreadable j i ≡ unreadable k n → j ≡ k
+row-is e = cc
+
+line-is : {j k i n : ℕ} → unreadable j i ≡ unreadable k n → i ≡ n
+line-is e = cc
 
 -- ---- no refusal names a line that was read before
 
@@ -32,6 +39,22 @@ from-line s b (l ∷ ls) = subst (From b) (sym (step-read s b l ls)) (go (λ s�
     go ih (on s′) = from-less b (readFrom s′ (suc b) ls) (ih s′)
     go ih (over ts) = end-from ts b ls
     go ih (wrong k) = omega arith
+
+-- a refusal of a frame, and not for want of one or for bytes behind the end, names the line of one of them
+pub frame-line : {X : Type 0} (frame : X → Option (List ℕ)) (s : Begun) (n : ℕ) (ls : List X) (k m : ℕ) → framesFrom frame s n ls ≡ unreadable k m → k ≤ 5
+    → m < n + length ls
+frame-line frame s n [] k m e h = absurd (omega (arith, row-is e, h))
+frame-line {X} frame s n (l ∷ ls) k m e h = go (stepAt s (frame l)) (λ z q. frame-line frame z (suc n) ls k m q h) (sym (step-frames frame s n l ls) ∙ e)
+  where
+    ended : (ts : Table) (xs : List X) → atEnd ts (suc n) xs ≡ unreadable k m → m < n + length (l ∷ ls)
+    ended ts [] q = absurd (let z : _≡_ {A = ℕ} 0 1 = cc in omega arith)
+    ended ts (x ∷ xs) q = absurd (omega (arith, row-is q, h))
+
+    go : (r : Step) → ((z : Begun) → framesFrom frame z (suc n) ls ≡ unreadable k m → m < suc n + length ls) → framesStep frame r n ls ≡ unreadable k m
+        → m < n + length (l ∷ ls)
+    go (on z) ih q = omega (arith, ih z q)
+    go (over ts) ih q = ended ts ls q
+    go (wrong j) ih q = omega (arith, line-is q)
 
 -- ---- the lines behind the one that is named
 

@@ -26,8 +26,12 @@ pub mod Refusals
 pub mod Verdicts
 pub mod SameJobs
 pub mod Readable
+pub mod TextSize
 pub mod LongestText
 pub mod FaultyLine
+pub mod FrameLines
+pub mod FramesBack
+pub mod TextRead
 pub mod Answers
 pub mod Latest
 pub mod Counts

@@ -2,16 +2,16 @@
 use mathlib.Core.Path.{_≡_, refl, sym, ap, ap₂, subst, _∙_}
 use Prim.Native.Nat.{ℕ, zero, suc, _+_, _-_, _≤_, _<_}
 use native.Mathlib.Decide.{ℕ-discrete}
-use native.Mathlib.Nat.{sub-zero, zero-add}
+use native.Mathlib.Nat.{sub-zero, zero-add, add-zero}
 use native.Mathlib.Omega.{arith}
 use mathlib.Core.Bool.{Bool, true, false, _&&_}
 use mathlib.Core.Logic.{_⊎_, inl, inr}
 use mathlib.Core.List.{List, [], _∷_, _++_, map, append-assoc, List·Memᴰ, List·Memᴰ·head, List·Memᴰ·tail, Memᴰ·append-left, Memᴰ·append-right}
 use mathlib.Core.List.{List·Memᴰ·append-cases, List·Memᴰ·not-nil}
-use lib.ListN.{length, getD, take, drop, length-append}
+use lib.ListN.{length, getD, set, take, drop, length-append, length-map}
 use lib.Seq.{take-nil}
 use lib.Dec.{T}
-use Rattle.meaning.specs.Lists.{pick, all, those, sum, largest, gather, countFrom}
+use Rattle.meaning.specs.Lists.{pick, all, those, sum, largest, gather, countFrom, below}
 
 -- ---- tests
 
@@ -140,6 +140,16 @@ module _ {X Y : Type 0} where
   map-mem f g [] h = refl
   map-mem f g (x ∷ xs) h = ap₂ (λ (y : Y) (ys : List Y). y ∷ ys) (h x (List·Memᴰ·head refl)) (map-mem f g xs (λ z m. h z (List·Memᴰ·tail m)))
 
+-- what is gathered from a mapped list, and from what was gathered
+
+pub gather-map : {X Y Z : Type 0} (f : Y → List Z) (g : X → Y) (xs : List X) → gather f (map g xs) ≡ gather (λ (x : X). f (g x)) xs
+gather-map f g [] = refl
+gather-map {Z = Z} f g (x ∷ xs) = ap (λ (l : List Z). f (g x) ++ l) (gather-map f g xs)
+
+pub gather-gather : {X Y Z : Type 0} (f : Y → List Z) (g : X → List Y) (xs : List X) → gather f (gather g xs) ≡ gather (λ (x : X). gather f (g x)) xs
+gather-gather f g [] = refl
+gather-gather {Z = Z} f g (x ∷ xs) = gather-append f (g x) (gather g xs) ∙ ap (λ (l : List Z). gather f (g x) ++ l) (gather-gather f g xs)
+
 -- ---- numbers
 
 pub sum-append : (xs ys : List ℕ) → sum (xs ++ ys) ≡ sum xs + sum ys
@@ -154,6 +164,11 @@ pub length-countFrom : (k n : ℕ) → length (countFrom k n) ≡ n
 length-countFrom k zero = refl
 length-countFrom k (suc n) = ap suc (length-countFrom (suc k) n)
 
+pub getD-countFrom : (k n i : ℕ) → i < n → getD (countFrom k n) i 0 ≡ k + i
+getD-countFrom k zero i h = absurd (omega arith)
+getD-countFrom k (suc n) zero h = sym (add-zero k)
+getD-countFrom k (suc n) (suc i) h = getD-countFrom (suc k) n i (omega arith) ∙ omega arith
+
 pub mem-countFrom : (k n v : ℕ) → k ≤ v → v < k + n → List·Memᴰ v (countFrom k n)
 mem-countFrom k zero v a b = absurd (omega arith)
 mem-countFrom k (suc n) v a b =
@@ -163,6 +178,20 @@ pub countFrom-mem : (k n v : ℕ) → List·Memᴰ v (countFrom k n) → (k ≤ 
 countFrom-mem k zero v m = absurd (List·Memᴰ·not-nil m)
 countFrom-mem k (suc n) v (List·Memᴰ·head q) = (omega arith, omega arith)
 countFrom-mem k (suc n) v (List·Memᴰ·tail m) = let r = countFrom-mem (suc k) n v m in (omega arith, omega arith)
+
+-- what f gives at each of n numbers from k on
+
+pub count-length : {Y : Type 0} (f : ℕ → Y) (k n : ℕ) → length (map f (countFrom k n)) ≡ n
+count-length f k n = length-map (countFrom k n) f ∙ length-countFrom k n
+
+pub count-at : {Y : Type 0} (f : ℕ → Y) (z : Y) (k n i : ℕ) → i < n → getD (map f (countFrom k n)) i z ≡ f (k + i)
+count-at f z k n i h = getD-mapped f z 0 (countFrom k n) i (omega (arith, length-countFrom k n)) ∙ ap f (getD-countFrom k n i h)
+
+-- one number more
+pub count-more : {Y : Type 0} (f : ℕ → Y) (k n : ℕ) → map f (countFrom k (suc n)) ≡ map f (countFrom k n) ++ (f (k + n) ∷ [])
+count-more f k zero = ap (λ (j : ℕ). f j ∷ []) (omega arith)
+count-more {Y} f k (suc n) =
+    ap (λ (l : List Y). f k ∷ l) (count-more f (suc k) n ∙ ap (λ (j : ℕ). map f (countFrom (suc k) n) ++ (f j ∷ [])) (omega arith))
 
 -- ---- parts of a mapped list
 
@@ -175,3 +204,24 @@ pub drop-map : {X Y : Type 0} (f : X → Y) (n : ℕ) (xs : List X) → drop n (
 drop-map f zero xs = refl
 drop-map f (suc n) [] = refl
 drop-map f (suc n) (x ∷ xs) = drop-map f n xs
+
+-- ---- the cells of a list, by their places
+
+pub cells-shift : {X Y : Type 0} (f : X → Y) (z a : X) (l : List X) (i n : ℕ)
+    → map (λ (j : ℕ). f (getD (a ∷ l) j z)) (countFrom (suc i) n) ≡ map (λ (j : ℕ). f (getD l j z)) (countFrom i n)
+cells-shift f z a l i zero = refl
+cells-shift {X} {Y} f z a l i (suc n) = ap (λ (ys : List Y). f (getD l i z) ∷ ys) (cells-shift f z a l (suc i) n)
+
+-- those of the front of a list
+pub cells-front : {X Y : Type 0} (f : X → Y) (z : X) (xs ys : List X) → map (λ (j : ℕ). f (getD (xs ++ ys) j z)) (below (length xs)) ≡ map f xs
+cells-front f z [] ys = refl
+cells-front {X} {Y} f z (x ∷ xs) ys = ap (λ (l : List Y). f x ∷ l) (cells-shift f z x (xs ++ ys) 0 (length xs) ∙ cells-front f z xs ys)
+
+-- one cell more
+pub cells-set : {X Y : Type 0} (f : X → Y) (z x : X) (xs : List X) (n : ℕ) → n < length xs
+    → map (λ (j : ℕ). f (getD (set xs n x) j z)) (below (suc n)) ≡ map (λ (j : ℕ). f (getD xs j z)) (below n) ++ (f x ∷ [])
+cells-set f z x [] n h = absurd (omega arith)
+cells-set f z x (y ∷ xs) zero h = refl
+cells-set {X} {Y} f z x (y ∷ xs) (suc n) h =
+    ap (λ (l : List Y). f y ∷ l)
+    (cells-shift f z y (set xs n x) 0 (suc n) ∙ cells-set f z x xs n (omega arith) ∙ ap (λ (l : List Y). l ++ (f x ∷ [])) (sym (cells-shift f z y xs 0 n)))

@@ -12,11 +12,10 @@ use lib.Dec.{T, ltb, leb, eqb, leb→le, ltb→lt, eqb→eq}
 use Rattle.meaning.specs.Lists.{pick, sum, gather, below}
 use Rattle.meaning.specs.Bounds.{mostTasks, mostVertices, mostEdges, largestE, largestD, largestP, largestM, lineLength}
 use Rattle.meaning.specs.Table.{Vertex, Edge, Task, Table, vertex, edge, task, noVertex}
-use Rattle.meaning.specs.Text.{Line, lineFeed, intoFirst, linesOf, digitOf, byteWith, hexBytes, frameOf, isFrame, word}
+use Rattle.meaning.specs.Text.{line, Line, lineFeed, intoFirst, linesOf, digitOf, byteWith, hexBytes, frameOf, isFrame, word}
 use Rattle.meaning.specs.Text.{Begun, begun, nothing, closed, Step, on, over, wrong, gate, within, taskFrame, maskFits, vertexFrame, afterLast, edgeFrame}
 use Rattle.meaning.specs.Text.{framed, stepAt, Reading, readable, unreadable, atEnd, readFrom, read}
 use Rattle.meaning.specs.Sound.{SoundTask, AllSound}
-use Rattle.meaning.specs.Desk.{line}
 use Rattle.meaning.specs.Texts.{taskLine, vertexLine, edgeLine, endLine, longestTask, longestText, taskLength, textLength, LongestText, lastLine}
 use Rattle.meaning.specs.Texts.{TextRefused}
 use borrow.Author.Tests.{ne-eqb}

@@ -13,9 +13,9 @@ use Rattle.meaning.specs.Lists.{pick, Rising}
 use Rattle.meaning.specs.Bounds.{mostTasks, mostVertices, mostEdges, largestE, largestD, largestP, largestM}
 use Rattle.meaning.specs.Table.{Vertex, Edge, Task, Table, vertex, edge, task, noVertex, largestEIn}
 use Rattle.meaning.specs.Text.{Line, frameOf, Begun, begun, nothing, Step, on, over, wrong, within, closed, afterLast, gate, taskFrame}
-use Rattle.meaning.specs.Text.{maskFits, vertexFrame, edgeFrame, isFrame, word, framed, stepAt, Reading, readable, unreadable, atEnd, readFrom, read, linesOf}
-use Rattle.meaning.specs.Sound.{SoundVertex, SoundEdge, EdgeBefore, SoundTask, AllSound, SoundTable, ReadableSound}
-use Rattle.meaning.specs.Texts.{mostLines, lastLine}
+use Rattle.meaning.specs.Text.{maskFits, vertexFrame, edgeFrame, isFrame, word, framed, stepAt, Reading, readable, unreadable, atEnd, framesFrom, readFrom, read, linesOf}
+use Rattle.meaning.specs.Sound.{SoundVertex, SoundEdge, EdgeBefore, SoundTask, AllSound, SoundTable}
+use Rattle.meaning.specs.Texts.{mostLines, lastLine, ReadableSound}
 use borrow.Author.Tests.{le-ltb}
 use Rattle.meaning.proofs.Lists.{both-left, both-right, length-snoc}
 use Rattle.meaning.proofs.Rising.{rising-one, rising-append}
@@ -276,28 +276,35 @@ step-ok n s none h = record { low = omega arith; high = omega arith }
 step-ok n s (some f) h = framed-ok n s (s .wantV) (s .wantE) f h refl refl
 
 -- the lines behind line n, after its step
+abbrev pub framesStep : {X : Type 0} → (X → Option (List ℕ)) → Step → ℕ → List X → Reading
+framesStep frame (on s) n ls = framesFrom frame s (suc n) ls
+framesStep frame (over ts) n ls = atEnd ts (suc n) ls
+framesStep frame (wrong k) n ls = unreadable k n
+
+pub step-frames : {X : Type 0} (frame : X → Option (List ℕ)) (s : Begun) (n : ℕ) (l : X) (ls : List X)
+    → framesFrom frame s n (l ∷ ls) ≡ framesStep frame (stepAt s (frame l)) n ls
+step-frames {X} frame s n l ls = go (stepAt s (frame l)) refl
+  where
+    go : (r : Step) → stepAt s (frame l) ≡ r → framesFrom frame s n (l ∷ ls) ≡ framesStep frame (stepAt s (frame l)) n ls
+    go (on s′) e = rw (e, framesFrom)
+    go (over ts) e = rw (e, framesFrom)
+    go (wrong k) e = rw (e, framesFrom)
+
 abbrev pub readStep : Step → ℕ → List Line → Reading
-readStep (on s) n ls = readFrom s (suc n) ls
-readStep (over ts) n ls = atEnd ts (suc n) ls
-readStep (wrong k) n ls = unreadable k n
+readStep r n ls = framesStep frameOf r n ls
 
 pub step-read : (s : Begun) (n : ℕ) (l : Line) (ls : List Line) → readFrom s n (l ∷ ls) ≡ readStep (stepAt s (frameOf l)) n ls
-step-read s n l ls = go (stepAt s (frameOf l)) refl
-  where
-    go : (r : Step) → stepAt s (frameOf l) ≡ r → readFrom s n (l ∷ ls) ≡ readStep (stepAt s (frameOf l)) n ls
-    go (on s′) e = rw (e, readFrom)
-    go (over ts) e = rw (e, readFrom)
-    go (wrong k) e = rw (e, readFrom)
+step-read = step-frames frameOf
 
 -- a row of the text and a line that it can name
 abbrev pub InText : ℕ → ℕ → Type 0
 InText k n = (1 ≤ k) × (k ≤ 7) × (1 ≤ n) × (n ≤ lastLine)
 
-abbrev Good : Reading → Type 0
+abbrev pub Good : Reading → Type 0
 Good (readable ts) = SoundTable ts
 Good (unreadable k n) = InText k n
 
-at-end : (ts : Table) (n : ℕ) (ls : List Line) → SoundTable ts → n < lastLine → Good (atEnd ts (suc n) ls)
+at-end : {X : Type 0} (ts : Table) (n : ℕ) (ls : List X) → SoundTable ts → n < lastLine → Good (atEnd ts (suc n) ls)
 at-end ts n [] s h = s
 at-end ts n (l ∷ ls) s h = (omega arith, omega arith, omega arith, omega arith)
 
@@ -305,20 +312,20 @@ at-end ts n (l ∷ ls) s h = (omega arith, omega arith, omega arith, omega arith
 here : (n k : ℕ) (s : Begun) → HeldSoFar n s → 1 ≤ k → k ≤ 7 → InText k n
 here n k s h a b = (a, b, h .first, omega (arith, h .line, h .taskCount, h .vertexCount, h .edgeCount))
 
-from-good : (s : Begun) (n : ℕ) (ls : List Line) → HeldSoFar n s → Good (readFrom s n ls)
-from-good s n [] h = here n 6 s h (omega arith) (omega arith)
-from-good s n (l ∷ ls) h =
-    subst Good (sym (step-read s n l ls)) (go (λ s′ k. from-good s′ (suc n) ls k) (stepAt s (frameOf l)) (step-ok n s (frameOf l) h))
+from-good : {X : Type 0} (frame : X → Option (List ℕ)) (s : Begun) (n : ℕ) (ls : List X) → HeldSoFar n s → Good (framesFrom frame s n ls)
+from-good frame s n [] h = here n 6 s h (omega arith) (omega arith)
+from-good {X} frame s n (l ∷ ls) h =
+    subst Good (sym (step-frames frame s n l ls)) (go (λ s′ k. from-good frame s′ (suc n) ls k) (stepAt s (frame l)) (step-ok n s (frame l) h))
   where
-    go : ((s′ : Begun) → HeldSoFar (suc n) s′ → Good (readFrom s′ (suc n) ls)) → (r : Step) → Ok n r → Good (readStep r n ls)
+    go : ((s′ : Begun) → HeldSoFar (suc n) s′ → Good (framesFrom frame s′ (suc n) ls)) → (r : Step) → Ok n r → Good (framesStep frame r n ls)
     go ih (on s′) k = ih s′ k
     go ih (over ts) k = at-end ts n ls (k .0) (k .1)
     go ih (wrong m) k = here n m s h (k .low) (omega (arith, k .high))
 
-read-good : (text : List ℕ) → Good (read text)
-unfolding read
-read-good text =
-    from-good nothing 1 (linesOf text)
+-- the lines of a text, or the frames of a table
+pub frames-good : {X : Type 0} (frame : X → Option (List ℕ)) (ls : List X) → Good (framesFrom frame nothing 1 ls)
+frames-good frame ls =
+    from-good frame nothing 1 ls
     (record {
       tasks = λ x m. absurd (List·Memᴰ·not-nil m);
       taskCount = omega arith;
@@ -332,6 +339,10 @@ read-good text =
       first = omega arith;
       line = omega arith;
     })
+
+read-good : (text : List ℕ) → Good (read text)
+unfolding read
+read-good text = frames-good frameOf (linesOf text)
 
 pub read-sound : ReadableSound
 read-sound text ts q = subst Good q (read-good text)

@@ -1,9 +1,11 @@
--- The bench examples R1 to R8, tables of which the latest finish is asked, and masked lengths, as one table under one claim; `proofs/Bench` proves it.
+-- The bench examples R1 to R8, tables of which the latest finish is asked, masked lengths, and tables that are written, as one table under one claim;
+-- `proofs/Bench` proves it.
 use Prim.Native.Nat.{ℕ, _-_, _*_}
 use Prim.Native.Char.{code}
 use Prim.Native.String.{String, [] as []ˢ, _∷_ as _∷ˢ_}
 use mathlib.Core.Bool.{Bool, true, false, _&&_}
 use mathlib.Core.List.{List, [], _∷_, _++_}
+use lib.ListN.{replicate}
 use lib.Dec.{T, eqb}
 use Rattle.meaning.specs.Lists.{all}
 use Rattle.meaning.specs.Bounds.{deskBudget, deskWork, deskWitness}
@@ -14,6 +16,7 @@ use Rattle.meaning.specs.Verdict.{Verdict, numbers, cellsOf, missPaths, 
 use Rattle.meaning.specs.Text.{read, checked}
 use Rattle.meaning.specs.Judge.{judged}
 use Rattle.meaning.specs.Desk.{output}
+use Rattle.meaning.specs.Writing.{writing, writingNumbers, frontOf}
 
 -- ---- what the definitions give, beside what the document says, or its rules by hand
 
@@ -45,6 +48,9 @@ lone e d = task 0 (vertex e d ∷ []) []
 -- the same with a masked length m
 abbrev pub masking : ℕ → ℕ → ℕ → Task
 masking m e d = task m (vertex e d ∷ []) []
+
+abbrev pub r1 : Table
+r1 = selfEdge 2 5 5 ∷ selfEdge 2 7 7 ∷ selfEdge 2 6 7 ∷ []
 
 -- R1 with the last e = 1
 abbrev pub r2 : Table
@@ -115,6 +121,14 @@ abbrev pub lateWith : ℕ → Table → ℕ → List ℕ
 lateWith b ts i =
     let x = judged latest ts i 0 b deskWork deskWitness in
     lateNumbers (worstAt ts i 0) (latestPaths ts i 0) x ++ cellsOf (shownPaths (latestPaths ts i 0) x)
+
+-- a table that is written into an area of so many bytes: the answer in numbers, then the bytes written
+abbrev pub writtenInto : ℕ → Table → List ℕ
+writtenInto room ts = let w = writing ts room in writingNumbers w ++ frontOf w
+
+-- four tasks of two lines each
+abbrev pub fourTasks : Table
+fourTasks = replicate 4 (lone 1 1)
 
 -- above, four vertices of these e, no edges; judged e 2, d 6
 abbrev pub below : ℕ → ℕ → ℕ → ℕ → Table
@@ -199,6 +213,31 @@ examples =
     ∷ (checkOf "040100\n0200010009\n00\n" gives (2 ∷ 1 ∷ []))
     ∷ (checkOf "010100\n0401000001\n00\n" gives (2 ∷ 2 ∷ []))
     ∷ (checkOf "010101\n0200010001\n0401000001\n00\n" gives (2 ∷ 3 ∷ []))
+    -- written: R1 into an area of its 90 bytes, of more, and of one less
+    ∷ (writtenInto 90 r1 gives (0 ∷ 90 ∷ bytes r1In))
+    ∷ (writtenInto 1000 r1 gives (0 ∷ 90 ∷ bytes r1In))
+    ∷ (writtenInto 89 r1 gives (10 ∷ 90 ∷ []))
+    -- 01 for m = 0, 04 otherwise, with m up to the largest e; numbers with the high byte first
+    ∷ (writtenInto 99 (lone 5 9 ∷ []) gives (0 ∷ 21 ∷ bytes "010100\n0200050009\n00\n"))
+    ∷ (writtenInto 99 (masking 5 5 9 ∷ []) gives (0 ∷ 25 ∷ bytes "0401000005\n0200050009\n00\n"))
+    ∷ (writtenInto 99 (masking 1000 1000 200 ∷ []) gives (0 ∷ 25 ∷ bytes "04010003e8\n0203e800c8\n00\n"))
+    -- no task; nine of them, two lines each; nine of which the fifth breaks a rule; each before 10
+    ∷ (writtenInto 0 [] gives (2 ∷ 1 ∷ []))
+    ∷ (writtenInto 0 (fourTasks ++ fourTasks ++ (lone 0 0 ∷ [])) gives (2 ∷ 17 ∷ []))
+    ∷ (writtenInto 0 (fourTasks ++ (lone 0 1 ∷ []) ++ fourTasks) gives (3 ∷ 10 ∷ []))
+    -- counts that a task may not have, at its line, also where a byte can't hold them; so m 1,001; m above the largest e at the last vertex's line
+    ∷ (writtenInto 0 (task 0 [] [] ∷ []) gives (3 ∷ 1 ∷ []))
+    ∷ (writtenInto 0 (task 0 (replicate 13 (vertex 1 1)) [] ∷ []) gives (3 ∷ 1 ∷ []))
+    ∷ (writtenInto 0 (task 0 (replicate 300 (vertex 1 1)) [] ∷ []) gives (3 ∷ 1 ∷ []))
+    ∷ (writtenInto 0 (task 0 (vertex 1 1 ∷ []) (replicate 33 (edge 0 0 1)) ∷ []) gives (3 ∷ 1 ∷ []))
+    ∷ (writtenInto 0 (masking 1001 1000 9 ∷ []) gives (3 ∷ 1 ∷ []))
+    ∷ (writtenInto 0 (task 6 (vertex 5 9 ∷ vertex 4 9 ∷ []) [] ∷ []) gives (3 ∷ 3 ∷ []))
+    -- a number that two bytes can't hold
+    ∷ (writtenInto 0 (lone 65537 1 ∷ []) gives (3 ∷ 2 ∷ []))
+    -- edges: 3 before 4 before 5
+    ∷ (writtenInto 0 (task 0 (vertex 1 5 ∷ []) (edge 0 1 1 ∷ []) ∷ []) gives (3 ∷ 3 ∷ []))
+    ∷ (writtenInto 0 (task 0 (vertex 1 5 ∷ []) (edge 0 0 5 ∷ edge 0 0 4 ∷ []) ∷ []) gives (4 ∷ 4 ∷ []))
+    ∷ (writtenInto 0 (task 0 (vertex 1 5 ∷ []) (edge 0 0 5 ∷ edge 0 0 5 ∷ []) ∷ []) gives (5 ∷ 4 ∷ []))
     ∷ []
 
 -- the claim

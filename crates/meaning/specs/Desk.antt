@@ -4,16 +4,16 @@ use mathlib.Core.Bool.{true, false}
 use mathlib.Core.List.{List, [], _∷_, _++_, map}
 use lib.ListN.{length, getD}
 use lib.Dec.{ltb}
-use Rattle.meaning.specs.Lists.{pick, gather}
+use Rattle.meaning.specs.Lists.{gather}
 use Rattle.meaning.specs.Bounds.{longestInput, deskWork, deskWitness, deskBudget}
 use Rattle.meaning.specs.Table.{Table}
-use Rattle.meaning.specs.Text.{Reading, readable, unreadable, read, lineFeed}
+use Rattle.meaning.specs.Text.{Reading, readable, unreadable, read, line}
 use Rattle.meaning.specs.Paths.{Path}
 use Rattle.meaning.specs.Verdict.{Verdict, numbers, kindOf, missPaths, plain}
 use Rattle.meaning.specs.Judge.{judged}
 use Rattle.meaning.specs.Whole.{Place, places, Counts, countsOf}
 
--- ---- numbers and lines
+-- ---- numbers
 
 -- in two bytes and in four, the high byte first
 abbrev pub two : ℕ → List ℕ
@@ -21,18 +21,6 @@ two n = n / 256 % 256 ∷ n % 256 ∷ []
 
 abbrev pub four : ℕ → List ℕ
 four n = two (n / 65536) ++ two n
-
--- the digit 0-9a-f of a number below 16
-abbrev pub digit : ℕ → ℕ
-digit n = pick (ltb n 10) (48 + n) (87 + n)
-
--- a byte as its two digits
-abbrev pub digits : ℕ → List ℕ
-digits b = digit (b / 16) ∷ digit (b % 16) ∷ []
-
--- a frame a line
-abbrev pub line : List ℕ → List ℕ
-line f = gather digits f ++ (lineFeed ∷ [])
 
 -- ---- frames
 

@@ -10,6 +10,7 @@ pub mod Areas
 pub mod Judge
 pub mod Whole
 pub mod Desk
+pub mod Writing
 pub mod Sound
 pub mod Texts
 pub mod Demands

@@ -1,14 +1,13 @@
--- What every readable table keeps: the bounds, m at most the task's largest e, d at most p, edges strictly rising with their ends in the task;
--- `proofs/Readable` proves it.
+-- The rules that a table keeps: the bounds, m at most the task's largest e, d at most p, edges strictly rising with their ends in the task. Every readable
+-- table keeps them (`ReadableSound` of `Texts`).
 use mathlib.Core.Path.{_≡_}
 use mathlib.Core.Logic.{_⊎_}
-use Prim.Native.Nat.{ℕ, _≤_, _<_}
+use Prim.Native.Nat.{_≤_, _<_}
 use mathlib.Core.List.{List, List·Memᴰ}
 use lib.ListN.{length, getD}
 use Rattle.meaning.specs.Lists.{Rising}
 use Rattle.meaning.specs.Bounds.{mostTasks, mostVertices, mostEdges, largestE, largestD, largestP, largestM}
 use Rattle.meaning.specs.Table.{Vertex, Edge, Task, Table, noVertex, largestEIn}
-use Rattle.meaning.specs.Text.{readable, read}
 
 pub record SoundVertex (x : Vertex) : Type 0 where
   pub someE : 1 ≤ x .e
@@ -45,7 +44,3 @@ pub record SoundTable (ts : Table) : Type 0 where
   pub someTask : 1 ≤ length ts
   pub taskCount : length ts ≤ mostTasks
   pub eachTask : AllSound ts
-
--- for every text
-abbrev pub ReadableSound : Type 0
-ReadableSound = (text : List ℕ) (ts : Table) → read text ≡ readable ts → SoundTable ts

@@ -1,11 +1,11 @@
 -- Frames on paper, and the refusal sheet's rows 1 to 7: from the bytes of a text to its table, or to the number and the line of its refusal.
-use Prim.Native.Nat.{ℕ, zero, suc, _+_, _-_, _*_}
+use Prim.Native.Nat.{ℕ, zero, suc, _+_, _-_, _*_, _/_, _%_}
 use mathlib.Core.Bool.{Bool, true, false, _&&_, _||_}
 use mathlib.Core.Option.{Option, none, some}
 use mathlib.Core.List.{List, [], _∷_, _++_}
 use lib.ListN.{length, getD}
 use lib.Dec.{leb, ltb, eqb}
-use Rattle.meaning.specs.Lists.{pick}
+use Rattle.meaning.specs.Lists.{pick, gather}
 use Rattle.meaning.specs.Bounds.{mostTasks, mostVertices, mostEdges, largestE, largestD, largestP, largestM}
 use Rattle.meaning.specs.Table.{Vertex, Edge, Task, Table, vertex, edge, task, noVertex, noTask, largestEIn}
 
@@ -56,6 +56,19 @@ isFrame k n f = eqb (getD f 0 0) k && eqb (length f) n
 -- the number in the two bytes at i, the high byte first
 abbrev pub word : List ℕ → ℕ → ℕ
 word f i = getD f i 0 * 256 + getD f (suc i) 0
+
+-- ---- a frame as its line
+
+-- the digit 0-9a-f of a number below 16
+abbrev pub digit : ℕ → ℕ
+digit n = pick (ltb n 10) (48 + n) (87 + n)
+
+-- a byte as its two digits
+abbrev pub digits : ℕ → List ℕ
+digits b = digit (b / 16) ∷ digit (b % 16) ∷ []
+
+abbrev pub line : List ℕ → List ℕ
+line f = gather digits f ++ (lineFeed ∷ [])
 
 -- ---- what a frame does to what was read before it
 
@@ -144,19 +157,22 @@ pub data Reading : Type 0 where
   unreadable : ℕ → ℕ → Reading
 
 -- after the end frame nothing is read: any byte there is 7
-abbrev pub atEnd : Table → ℕ → List Line → Reading
+abbrev pub atEnd : {X : Type 0} → Table → ℕ → List X → Reading
 atEnd ts n [] = readable ts
 atEnd ts n (l ∷ ls) = unreadable 7 n
 
--- the lines from line n on, after what was read before
-abbrev pub readFrom : Begun → ℕ → List Line → Reading
-readFrom s n [] = unreadable 6 n
-readFrom s n (l ∷ ls) =
-    elim (stepAt s (frameOf l)) [
-      | on s′ ↦ readFrom s′ (suc n) ls
+-- the lines from line n on, after what was read before; `frame` gives the frame of a line
+abbrev pub framesFrom : {X : Type 0} → (X → Option (List ℕ)) → Begun → ℕ → List X → Reading
+framesFrom frame s n [] = unreadable 6 n
+framesFrom frame s n (l ∷ ls) =
+    elim (stepAt s (frame l)) [
+      | on s′ ↦ framesFrom frame s′ (suc n) ls
       | over ts ↦ atEnd ts (suc n) ls
       | wrong k ↦ unreadable k n
     ]
+
+abbrev pub readFrom : Begun → ℕ → List Line → Reading
+readFrom s n ls = framesFrom frameOf s n ls
 
 unfoldable pub read : List ℕ → Reading
 read text = readFrom nothing 1 (linesOf text)

@@ -1,4 +1,5 @@
--- What holds of every text: how long a readable one is, and where a refusal of the others stands. `proofs/LongestText` and `proofs/FaultyLine` prove it.
+-- What holds of every text: the rules that a readable one's table keeps, how long it is, and where a refusal of the others stands. `proofs/Readable`,
+-- `proofs/LongestText` and `proofs/FaultyLine` prove it.
 use mathlib.Core.Path.{_≡_}
 use Prim.Native.Nat.{ℕ, suc, _+_, _*_, _≤_, _<_}
 use mathlib.Core.List.{List, map}
@@ -8,8 +9,14 @@ use Rattle.meaning.specs.Lists.{pick, sum}
 use Rattle.meaning.specs.Bounds.{mostTasks, mostVertices, mostEdges, largestM, lineLength}
 use Rattle.meaning.specs.Table.{Task, Table}
 use Rattle.meaning.specs.Text.{linesOf, readable, unreadable, read}
+use Rattle.meaning.specs.Sound.{SoundTable}
 
--- ---- readable texts: the bytes of their lines
+-- ---- readable texts
+
+abbrev pub ReadableSound : Type 0
+ReadableSound = (text : List ℕ) (ts : Table) → read text ≡ readable ts → SoundTable ts
+
+-- ---- the bytes of their lines
 
 -- 01, vertices, edges; with a masked length 04, vertices, edges, m in 2 bytes
 abbrev pub taskLine : ℕ → ℕ

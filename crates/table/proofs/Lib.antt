@@ -2,3 +2,4 @@ pub mod Record
 pub mod Records
 pub mod Vertices
 pub mod Largest
+pub mod Holding

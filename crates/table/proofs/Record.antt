@@ -1,15 +1,18 @@
 -- A record stands for the table that it is the record of.
-use mathlib.Core.Path.{_≡_, refl, ap, ap₂, _∙_}
+use mathlib.Core.Path.{_≡_, refl, sym, ap, ap₂, _∙_}
 use Prim.Native.Nat.{ℕ, _+_, _-_, _<_, suc, _≤_}
 use mathlib.Core.List.{List, [], _∷_, _++_, map, append-assoc}
 use native.Mathlib.Omega.{arith}
-use lib.ListN.{length-append, length-replicate, length, take, set, replicate, getD, List·getD-append}
+use lib.ListN.{length-append, length-replicate, length-map, length, take, set, replicate, getD, List·getD-append}
 use lib.Seq.{take-at, set-append-seam}
+use Rattle.meaning.specs.Lists.{below}
 use Rattle.meaning.specs.Bounds.{mostTasks, mostVertices, mostEdges}
 use Rattle.meaning.specs.Table as Meant
+use Rattle.meaning.proofs.Lists.{cells-front}
 use Rattle.table.specs.declared.Task.{Task}
-use Rattle.table.specs.Record.{padded, noTask, noVertex, noEdge, vertexRecord, edgeRecord, taskRecord, tableRecord}
-use Rattle.table.specs.Inner.{vertexOf, taskOf, tableOf, edgeOf}
+use Rattle.table.specs.Record.{padded, noTask, noVertex, noEdge, vertexRecord, edgeRecord, taskRecord, tableRecord, vertexOf, edgeOf}
+use Rattle.table.specs.Record.{verticesHeld, edgesHeld, taskHeld, blankTask, tableHeld}
+use Rattle.table.specs.Inner.{taskOf, tableOf}
 
 -- the front of a padded list, and an element of it
 pub take-padded : {X : Type 0} (n : ℕ) (z : X) (xs : List X) → take (length xs) (padded n z xs) ≡ xs
@@ -51,3 +54,23 @@ task-of-record k =
 
 pub table-of-record : (ts : Meant.Table) → tableOf (tableRecord ts) ≡ ts
 table-of-record ts = unpadded taskRecord taskOf task-of-record mostTasks noTask ts
+
+-- and the table that it holds, as its counts say, is that one too
+held-cells : {X Y : Type 0} (f : X → Y) (g : Y → X) → ((x : X) → g (f x) ≡ x)
+    → (n : ℕ) (z w : Y) (xs : List X) → map (λ (i : ℕ). g (getD (padded n z (map f xs)) i w)) (below (length xs)) ≡ xs
+unfolding padded
+held-cells f g h n z w xs =
+    ap (λ (k : ℕ). map (λ (i : ℕ). g (getD (map f xs ++ replicate (n - length (map f xs)) z) i w)) (below k)) (sym (length-map xs f))
+    ∙ cells-front g w (map f xs) (replicate (n - length (map f xs)) z)
+    ∙ undone f g h xs
+
+pub task-held-record : (k : Meant.Task) → taskHeld (taskRecord k) ≡ k
+unfolding taskHeld verticesHeld edgesHeld
+task-held-record k =
+    ap₂ (Meant.task (k .m))
+    (held-cells vertexRecord vertexOf (λ x. refl) mostVertices noVertex noVertex (k .vertices))
+    (held-cells edgeRecord edgeOf (λ x. refl) mostEdges noEdge noEdge (k .edges))
+
+pub table-held-record : (ts : Meant.Table) → tableHeld (tableRecord ts) ≡ ts
+unfolding tableHeld
+table-held-record ts = held-cells taskRecord taskHeld task-held-record mostTasks noTask blankTask ts

@@ -2,7 +2,7 @@
 use mathlib.Core.Path.{_≡_, ap, _∙_}
 use Prim.Native.Nat.{ℕ, _≤_, _<_}
 use native.Mathlib.Omega.{arith}
-use mathlib.Core.List.{[], map}
+use mathlib.Core.List.{map}
 use lib.ListN.{length, getD, length-map}
 use Rattle.meaning.specs.Bounds.{mostVertices}
 use Rattle.meaning.specs.Table as Meant
@@ -13,15 +13,11 @@ use Rattle.meaning.proofs.Lists.{mem-getD, getD-mapped}
 use Rattle.table.specs.declared.Vertex.{Vertex}
 use Rattle.table.specs.declared.Task.{Task}
 use Rattle.table.specs.declared.Table.{Table}
-use Rattle.table.specs.Record.{taskCells, vertexRecord}
-use Rattle.table.specs.Inner.{ticks, tableOf, Held}
+use Rattle.table.specs.Record.{vertexRecord, blankTask}
+use Rattle.table.specs.Inner.{tableOf, Held}
 use Rattle.table.specs.Record as Blank
 use Rattle.table.proofs.Record.{getD-padded, length-padded}
 use Rattle.table.proofs.Records.{held-task, held-sound}
-
--- what is read where there is no task
-abbrev blankTask : Task
-blankTask = taskCells (ticks 0) 0 0 [] []
 
 abbrev pub ownTask : Table → ℕ → Task
 ownTask t i = getD (t .tasks) i blankTask

@@ -12,7 +12,7 @@ use Rattle.table.specs.declared.Vertex.{Vertex}
 use Rattle.table.specs.declared.Edge.{Edge}
 use Rattle.table.specs.declared.Task.{Task}
 use Rattle.table.specs.declared.Table.{Table}
-use Rattle.table.specs.Record.{noVertex, noEdge, noTask, padded, vertexRecord, edgeRecord, taskRecord, tableRecord}
+use Rattle.table.specs.Record.{noVertex, noEdge, noTask, padded, vertexRecord, edgeRecord, taskRecord, tableRecord, vertexOf, edgeOf}
 
 -- ---- the parts of a record
 
@@ -38,12 +38,6 @@ abbrev pub noTable : Table
 noTable = record { n = 0; tasks = replicate mostTasks noTask }
 
 -- ---- the table that a record stands for
-
-abbrev pub vertexOf : Vertex → Meant.Vertex
-vertexOf x = Meant.vertex (x .e .0) (x .d .0)
-
-abbrev pub edgeOf : Edge → Meant.Edge
-edgeOf x = Meant.edge (x .from .0) (x .to .0) (x .p .0)
 
 abbrev pub taskOf : Task → Meant.Task
 taskOf k = Meant.task (k .m .0) (map vertexOf (take (k .nv) (k .vertices))) (map edgeOf (take (k .ne) (k .edges)))

@@ -1,7 +1,8 @@
 -- The record of a table, every cell of it.
 use Prim.Native.Nat.{ℕ, _-_}
-use mathlib.Core.List.{List, _++_, map}
-use lib.ListN.{length, replicate}
+use mathlib.Core.List.{List, [], _++_, map}
+use lib.ListN.{length, getD, replicate}
+use Rattle.meaning.specs.Lists.{below}
 use Rattle.meaning.specs.Bounds.{mostTasks, mostVertices, mostEdges}
 use Rattle.meaning.specs.Table as Meant
 use Rattle.kinds.specs.declared.Ticks.{Ticks}
@@ -42,3 +43,27 @@ taskRecord k =
 
 abbrev pub tableRecord : Meant.Table → Table
 tableRecord ts = record { n = length ts; tasks = padded mostTasks noTask (map taskRecord ts) }
+
+-- ---- the table that a record holds
+
+abbrev pub vertexOf : Vertex → Meant.Vertex
+vertexOf x = Meant.vertex (x .e .0) (x .d .0)
+
+abbrev pub edgeOf : Edge → Meant.Edge
+edgeOf x = Meant.edge (x .from .0) (x .to .0) (x .p .0)
+
+-- as many as the counts say, whatever they say: beyond an array stand zeros, and what lies behind a count isn't looked at
+unfoldable pub verticesHeld : List Vertex → ℕ → List Meant.Vertex
+verticesHeld vs n = map (λ (i : ℕ). vertexOf (getD vs i noVertex)) (below n)
+
+unfoldable pub edgesHeld : List Edge → ℕ → List Meant.Edge
+edgesHeld es n = map (λ (i : ℕ). edgeOf (getD es i noEdge)) (below n)
+
+unfoldable pub taskHeld : Task → Meant.Task
+taskHeld k = Meant.task (k .m .0) (verticesHeld (k .vertices) (k .nv)) (edgesHeld (k .edges) (k .ne))
+
+abbrev pub blankTask : Task
+blankTask = taskCells (record { 0 = 0 }) 0 0 [] []
+
+unfoldable pub tableHeld : Table → Meant.Table
+tableHeld t = map (λ (i : ℕ). taskHeld (getD (t .tasks) i blankTask)) (below (t .n))

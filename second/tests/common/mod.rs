@@ -5,6 +5,7 @@ pub mod lateness;
 pub mod random;
 pub mod refused;
 pub mod sheet;
+pub mod writing;
 
 use second::case::Case;
 use second::judge::{judge, Verdict};

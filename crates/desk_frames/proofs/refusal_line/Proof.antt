@@ -1,6 +1,7 @@
 use mathlib.Core.Path.{subst}
 use Prim.Native.Nat.{ℕ}
-use Rattle.meaning.specs.Desk.{line, refusalFrame}
+use Rattle.meaning.specs.Text.{line}
+use Rattle.meaning.specs.Desk.{refusalFrame}
 use Rattle.meaning.specs.Areas.{Wrote}
 use borrow.Author.Needs.{needs}
 use Rattle.desk_frames.proofs.refusal_line.Statement.{statement}

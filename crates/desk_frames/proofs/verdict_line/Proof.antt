@@ -1,6 +1,7 @@
 use mathlib.Core.Path.{subst₂}
 use Prim.Native.Nat.{ℕ}
-use Rattle.meaning.specs.Desk.{line, verdictFrame}
+use Rattle.meaning.specs.Text.{line}
+use Rattle.meaning.specs.Desk.{verdictFrame}
 use Rattle.meaning.specs.Areas.{Wrote}
 use Rattle.desk_frames.specs.Lines.{placeOf}
 use borrow.Author.Needs.{needs}

@@ -1,5 +1,3 @@
-use mathlib.Core.Path.{ap}
-use Prim.Native.Nat.{ℕ, _+_, _*_}
 use Rattle.host.proofs.Telling.{table-told}
 use borrow.Author.Needs.{needs}
 use Rattle.host.proofs.tectavirio_judge_table.Statement.{statement}
@@ -20,37 +18,24 @@ cast-result c = search needs
 enum-known-verdict-2 : tie.Need-enum-known-verdict-2
 enum-known-verdict-2 c = search needs
 
-refusal-number-requires : tie.Need-refusal-number-requires
-refusal-number-requires c κs = search needs
-
-cast-result-2 : tie.Need-cast-result-2
-cast-result-2 c = search needs
-
-mul-result : tie.Need-mul-result
-mul-result c = search needs
-
-cast-result-3 : tie.Need-cast-result-3
-cast-result-3 c = search needs
-
-add-result : tie.Need-add-result
-add-result c = search needs
+refused-number-requires : tie.Need-refused-number-requires
+refused-number-requires c κs = search needs
 
 same-length : tie.Need-same-length
 same-length c = search needs
 
 returns : tie.Need-returns
-returns c = table-told (c .before .before .before .before .before .before .judge-table .ensures)
-    (c .before .before .verdict .given .1) (c .counts-number .ensures)
+returns c =
+    let told = c .before .before in
+    table-told (told .before .before .before .before .judge-table .ensures) (told .verdict .given .1) (c .counts-number .ensures)
 
 same-length-2 : tie.Need-same-length-2
 same-length-2 c = search needs
 
 returns-2 : tie.Need-returns-2
 returns-2 c =
-    let told = c .before .before .before .verdict2 .given in
-    let number = c .before .refusal-number in
-    table-told (c .before .before .before .before .before .before .before .judge-table .ensures)
-    (told .1) (ap (λ (n : ℕ). n * 4294967296 + told .0 .0 .place) (number .ensures))
+    let told = c .before .before in
+    table-told (told .before .before .before .before .judge-table .ensures) (told .verdict2 .given .1) (c .refused-number .ensures)
 
 pub tectavirio-judge-table-spec : {M : Type 1} → statement M
 tectavirio-judge-table-spec =
@@ -61,11 +46,7 @@ tectavirio-judge-table-spec =
     counts-number-requires
     cast-result
     enum-known-verdict-2
-    refusal-number-requires
-    cast-result-2
-    mul-result
-    cast-result-3
-    add-result
+    refused-number-requires
     same-length
     returns
     same-length-2

@@ -1,9 +1,11 @@
-//! What the generators share: lines of a text, the bench examples, the refusals of a text, cases of one vertex, and a pseudo-random generator.
+//! What the generators share: lines of a text, the bench examples, the refusals of a text, cases of one vertex, tables for the writer, and a pseudo-random generator.
 
 // No generator uses all of it.
 #![allow(dead_code)]
 
 pub mod bench;
+pub mod broken;
+pub mod drafts;
 pub mod refusals;
 pub mod vertices;
 

@@ -1,8 +1,10 @@
 use native.Mathlib.Omega.{arith}
 use Rattle.meaning.specs.Areas.{Wrote}
 use Rattle.meaning.specs.Lists.{gather}
-use Rattle.meaning.specs.Desk.{digits, pathFrame}
-use Rattle.desk_frames.proofs.Lines.{digits-end, wrote-line, head-then}
+use Rattle.meaning.specs.Text.{digits}
+use Rattle.meaning.specs.Desk.{pathFrame}
+use Rattle.put.proofs.Lines.{digits-end, wrote-line}
+use Rattle.desk_frames.proofs.PathLines.{head-then}
 use Rattle.meaning.proofs.Wrote.{wrote-length}
 use borrow.Author.Needs.{needs}
 use Rattle.desk_frames.proofs.path.path_line.Statement.{statement}

@@ -1,0 +1,5 @@
+pub mod Alike
+pub mod Narrowed
+pub mod Filled
+pub mod Turns
+pub mod Laid

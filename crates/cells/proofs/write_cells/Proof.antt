@@ -1,0 +1,22 @@
+use Rattle.cells.proofs.Alike.{cells-written}
+use borrow.Author.Needs.{needs}
+use Rattle.cells.proofs.write_cells.Statement.{statement}
+use Rattle.cells.proofs.write_cells.Tie as tie
+
+table-in-requires : tie.Need-table-in-requires
+table-in-requires c κs = search needs
+
+write-requires : tie.Need-write-requires
+write-requires c κs = search needs
+
+same-length : tie.Need-same-length
+same-length c = search needs
+
+returns : tie.Need-returns
+returns c =
+    let wrote = c .before .before in
+    let made = wrote .before .before in
+    cells-written (made .before .before .before .args .cells .now) (made .table-in .ensures) (wrote .write .ensures)
+
+pub write-cells-spec : {M : Type 1} → statement M
+write-cells-spec = tie.close (tie.spec table-in-requires write-requires same-length returns)

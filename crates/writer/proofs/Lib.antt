@@ -1,0 +1,5 @@
+pub mod PartLines
+pub mod TableLines
+pub mod Outcomes
+pub mod Answers
+pub mod Demands

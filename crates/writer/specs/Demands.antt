@@ -1,0 +1,99 @@
+-- What the customer asks of the writer, wish 4's sentences: for every call of `write` and `read` that their promises allow. `proofs/Demands` proves it.
+use mathlib.Core.Path.{_≡_}
+use Prim.Native.Nat.{ℕ, suc, _+_, _≤_, _<_}
+use mathlib.Core.Logic.{_⊎_}
+use mathlib.Core.List.{List, [], _∷_, List·Memᴰ}
+use lib.ListN.{length, take, drop}
+use Rattle.meaning.specs.Lists.{gather}
+use Rattle.meaning.specs.Bounds.{mostTasks, mostVertices, mostEdges, largestM}
+use Rattle.meaning.specs.Table as Meant
+use Rattle.meaning.specs.Text.{unreadable, read}
+use Rattle.meaning.specs.Sound.{SoundVertex, AllSound, SoundTable}
+use Rattle.meaning.specs.Writing.{framesOfTask, framesOf, textOf}
+use Rattle.kinds.specs.declared.RefusedAt.{RefusedAt}
+use Rattle.table.specs.declared.Table.{Table}
+use Rattle.table.specs.Record.{tableRecord, tableHeld}
+use Rattle.reader.specs.declared.Reading.{Reading}
+use Rattle.reader.specs.declared.Status.the-variants.{Readable}
+use Rattle.reader.specs.Record.{Reads}
+use Rattle.writer.specs.declared.Written.{Written}
+use Rattle.writer.specs.declared.Written.the-variants.{Bytes, Refused}
+use Rattle.writer.specs.Written.{writtenNumbers, Writes}
+
+-- ---- there and back
+
+-- what a record of a table holds is that table
+abbrev pub Held : Type 0
+Held = (ts : Meant.Table) → tableHeld (tableRecord ts) ≡ ts
+
+-- "Reading what was written gives the same tasks, masked lengths, vertices and edges": of the n bytes that were written; what stands behind them in the
+-- area is no part of the text.
+abbrev pub ReadBack : Type 0
+ReadBack = (t : Table) (before : List ℕ) (n : ℕ) (after : List ℕ) (q : Reading) → Writes t before (Bytes n) after → Reads (take n after) q
+    → (q .status ≡ Readable) × (tableHeld (q .table) ≡ tableHeld t)
+
+-- "Writing what was read gives the same bytes", in any area that has room for them; else 10.
+abbrev pub WrittenBack : Type 0
+WrittenBack = (text : List ℕ) (q : Reading) (before : List ℕ) (r : Written) (after : List ℕ) → Reads text q → q .status ≡ Readable
+    → length text ≤ length before → Writes (q .table) before r after → (r ≡ Bytes (length text)) × (take (length text) after ≡ text)
+
+-- "Two texts mean the same table only if they are equal."
+abbrev pub OneText : Type 0
+OneText = (text other : List ℕ) (q o : Reading) → Reads text q → Reads other o → q .status ≡ Readable → o .status ≡ Readable
+    → tableHeld (q .table) ≡ tableHeld (o .table) → text ≡ other
+
+-- ---- what is written, and what is refused
+
+-- A call of `write` with a record that holds ts, an area that holds `before`, its answer, and what the area holds after it.
+module _ (t : Table) (before : List ℕ) (r : Written) (after : List ℕ) where
+  abbrev pub ts : Meant.Table
+  ts = tableHeld t
+
+  -- the answer has these numbers
+  abbrev pub Gets : ℕ → ℕ → Type 0
+  Gets k n = writtenNumbers r ≡ k ∷ n ∷ []
+
+  -- as many frames stand before task i's own, so that its line is the next
+  abbrev pub lineOf : ℕ → ℕ
+  lineOf i = suc (length (gather framesOfTask (take i ts)))
+
+  -- task i is there, is no ninth, and no task before it breaks a rule
+  abbrev pub Reached : ℕ → Type 0
+  Reached i = (i < t .n) × (i < mostTasks) × AllSound (take i ts)
+
+  pub record WriteCall : Type 0 where
+    -- a table that breaks no rule is written, and no other; "then 10 with the bytes needed"
+    pub fits : SoundTable ts → length (textOf ts) ≤ length before → r ≡ Bytes (length (textOf ts))
+    pub short : SoundTable ts → length before < length (textOf ts) → Gets 10 (length (textOf ts))
+    pub only-sound : (n : ℕ) → r ≡ Bytes n → SoundTable ts
+    -- "writes the frames", of which `frameOfTask` says "01 is written for m = 0, 04 otherwise"
+    pub front : (n : ℕ) → r ≡ Bytes n → take n after ≡ textOf ts
+    -- "A table that breaks a rule gets 2 to 5 with the line its frame would have"
+    pub broken : (SoundTable ts → ⊥) → (k : ℕ) × (n : ℕ) × Gets k n × (2 ≤ k) × (k ≤ 5) × (1 ≤ n) × (n ≤ length (framesOf ts))
+    -- "first line first": what the reader says of these frames' lines; but for 1, which it says of a number that has no digits in them
+    pub same-line : (k n : ℕ) → 2 ≤ k → read (textOf ts) ≡ unreadable k n → Gets k n
+    -- "no task: 2, line 1; more than eight: 2, the ninth's line", if no task before it breaks a rule
+    pub no-task : t .n ≡ 0 → Gets 2 1
+    pub ninth : mostTasks < t .n → AllSound (take mostTasks ts) → Gets 2 (lineOf mostTasks)
+    -- counts that no task may have and m above 1,000 are 3 at the task's line, also where a byte can't hold them
+    pub counts : (i : ℕ) → Reached i → let k = Meant.taskAt ts i in
+        (length (k .vertices) ≡ 0) ⊎ (mostVertices < length (k .vertices)) ⊎ (mostEdges < length (k .edges)) ⊎ (largestM < k .m) → Gets 3 (lineOf i)
+    -- m above the largest e is 3 at the last vertex's line, after its own checks
+    pub mask : (i : ℕ) → Reached i → let k = Meant.taskAt ts i in
+        1 ≤ length (k .vertices) → length (k .vertices) ≤ mostVertices → length (k .edges) ≤ mostEdges → k .m ≤ largestM
+        → ((x : Meant.Vertex) → List·Memᴰ x (k .vertices) → SoundVertex x) → Meant.largestEIn (k .vertices) < k .m
+        → Gets 3 (lineOf i + length (k .vertices))
+    -- "A refusal changes nothing; else the rest of the area is unchanged."
+    pub unchanged : (at : RefusedAt) → r ≡ Refused at → after ≡ before
+    pub rest : (n : ℕ) → r ≡ Bytes n → (length after ≡ length before) × (drop n after ≡ drop n before)
+
+abbrev pub WriteDemands : Type 0
+WriteDemands = (t : Table) (before : List ℕ) (r : Written) (after : List ℕ) → Writes t before r after → WriteCall t before r after
+
+-- the page
+pub record Demands : Type 0 where
+  pub held : Held
+  pub read-back : ReadBack
+  pub written-back : WrittenBack
+  pub one-text : OneText
+  pub calls : WriteDemands

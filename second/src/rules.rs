@@ -1,0 +1,78 @@
+//! The rules of a table's lines, rows 2 to 5 of the refusal sheet, which hold for a text that is read and for a table that is written.
+
+use crate::bounds::{D, E, EDGES, M, P, TASKS, VERTICES};
+use crate::record::{EdgeRecord, VertexRecord};
+use crate::refusal::Row;
+use crate::table::{Ticks, VertexNo};
+use std::ops::RangeInclusive;
+
+/// Nothing if a line keeps a rule, else the row that refuses it.
+pub(crate) type Kept = Result<(), Row>;
+
+/// A task's line, of a table with so many tasks before it.
+pub(crate) fn another_task(before: usize) -> Kept {
+    keeps(before < TASKS, Row::Frame)
+}
+
+/// The end's line, of a table with so many tasks.
+pub(crate) fn end(tasks: usize) -> Kept {
+    keeps(tasks > 0, Row::Frame)
+}
+
+/// A task's line: how many vertices and edges there are.
+pub(crate) fn counts(vertices: usize, edges: usize) -> Kept {
+    keeps(
+        is_within(vertices, &VERTICES) && is_within(edges, &EDGES),
+        Row::Number,
+    )
+}
+
+/// A masked task's line: its m.
+pub(crate) fn masked_length(m: Ticks) -> Kept {
+    keeps(are_within(m, &M), Row::Number)
+}
+
+/// A vertex's line: its e and d.
+pub(crate) fn vertex(vertex: VertexRecord) -> Kept {
+    keeps(
+        are_within(vertex.e, &E) && are_within(vertex.d, &D),
+        Row::Number,
+    )
+}
+
+/// The last vertex's line, after its own rules: m doesn't exceed the largest e of its task.
+pub(crate) fn largest_e(m: Ticks, mut e: impl Iterator<Item = Ticks>) -> Kept {
+    keeps(e.any(|e| e >= m), Row::Number)
+}
+
+/// An edge's line: its numbers, then d of its starting vertex, then its place behind the edge before it; d is none of a vertex that the task hasn't.
+pub(crate) fn edge(
+    edge: EdgeRecord,
+    before: Option<EdgeRecord>,
+    d: impl Fn(VertexNo) -> Option<Ticks>,
+) -> Kept {
+    let start_d = d(edge.from).ok_or(Row::Number)?;
+    d(edge.to).ok_or(Row::Number)?;
+    keeps(are_within(edge.p, &P), Row::Number)?;
+    keeps(start_d <= edge.p, Row::Deadline)?;
+    let is_after = |before: EdgeRecord| (before.from, before.to) < (edge.from, edge.to);
+    keeps(before.is_none_or(is_after), Row::EdgeOrder)
+}
+
+/// Nothing if the rule is kept, else the row.
+fn keeps(kept: bool, row: Row) -> Kept {
+    match kept {
+        true => Ok(()),
+        false => Err(row),
+    }
+}
+
+/// Is the number within its bounds?
+fn is_within(number: usize, bounds: &RangeInclusive<u8>) -> bool {
+    (usize::from(*bounds.start())..=usize::from(*bounds.end())).contains(&number)
+}
+
+/// Are the ticks within their bounds?
+fn are_within(ticks: Ticks, bounds: &RangeInclusive<u16>) -> bool {
+    (u32::from(*bounds.start())..=u32::from(*bounds.end())).contains(&ticks.0)
+}
