@@ -1,6 +1,6 @@
-/* The calls from C, on the cases of the proved program of this name: the text check (c), one vertex (v), how late its latest is (f) and a whole table (t)
- * on marked areas, the desk's output (d), and a table in cells, written to a marked area (k). What is written for a case is what that program writes for
- * it. With a word on the command line the text check is the reader's own.
+/* The calls from C, on cases as the proved program of this name has them: the text check (c), one vertex (v), how late its latest is (f) and a whole table
+ * (t) on marked areas, the desk's output (d); and a table in cells, written to a marked area (k). What is written for a case is what the second program
+ * writes for it. With a word on the command line the text check is the reader's own.
  *
  * Before a judging call each cell holds its own mark, a number that no judge writes; its line has what the call left in its areas. So does each byte before
  * a table is written: its mark is larger than any byte of a text. */

@@ -155,25 +155,26 @@ fn break_table(random: &mut Random, tasks: &mut Vec<Task>) {
         5 | 6 if vertices > 0 => task.vertices[random.below(vertices)].0 = any_number(random),
         7 if vertices > 0 => task.vertices[random.below(vertices)].1 = any_number(random),
         _ if task.edges.is_empty() => task.m = task.m.wrapping_add(1),
-        8 => {
-            let edge = random.below(task.edges.len());
-            task.edges[edge].2 = any_number(random);
-        }
+        kind => break_edge(random, kind, task, &whole),
+    }
+}
+
+/// Breaks one of the task's edges, of which there is one: its p, an end, the order, or p against d of the vertex that it leaves.
+fn break_edge(random: &mut Random, kind: usize, task: &mut Task, whole: &Task) {
+    let edge = random.below(task.edges.len());
+    match kind {
+        8 => task.edges[edge].2 = any_number(random),
         9 => {
-            let edge = random.below(task.edges.len());
             let number = any_number(random) as usize % 65_536;
             let (from, to, _) = &mut task.edges[edge];
             *[from, to][random.below(2)] = number;
         }
         10 => {
-            let (a, b) = (
-                random.below(task.edges.len()),
-                random.below(task.edges.len()),
-            );
-            task.edges.swap(a, b);
+            let other = random.below(task.edges.len());
+            task.edges.swap(edge, other);
         }
         _ => {
-            let (from, _, p) = &mut task.edges[random.below(whole.edges.len())];
+            let (from, _, p) = &mut task.edges[edge];
             let d = whole.vertices.get(*from).map_or(1, |vertex| vertex.1);
             *p = d.saturating_sub(1);
         }

@@ -3,11 +3,11 @@ use Prim.Native.Nat.{ℕ, _+_, _*_}
 use Rattle.meaning.specs.Bounds.{mostTasks, mostVertices, mostEdges}
 
 -- of a vertex, and of an edge
-abbrev pub partBytes : ℕ
-partBytes = 4
+abbrev pub placeBytes : ℕ
+placeBytes = 4
 
 abbrev pub taskBytes : ℕ
-taskBytes = 6 + partBytes * mostVertices + partBytes * mostEdges
+taskBytes = 6 + placeBytes * mostVertices + placeBytes * mostEdges
 
 abbrev pub recordBytes : ℕ
 recordBytes = 2 + taskBytes * mostTasks

@@ -17,7 +17,7 @@ ghost use Prim.Native.Nat.{_+_, _*_, _≤_, _<_};
 ghost use lib.ListN.{length};
 ghost use Rattle.meaning.specs.Bounds.{mostVertices, mostEdges};
 ghost use Rattle.sequences.specs.Sequence.{headerBytes};
-ghost use Rattle.cases.specs.Layout.{partBytes, taskBytes, recordBytes};
+ghost use Rattle.cases.specs.Layout.{placeBytes, taskBytes, recordBytes};
 
 const COUNT_BYTES: usize = 2;
 
@@ -25,9 +25,9 @@ const COUNT_BYTES: usize = 2;
 const OWN_BYTES: usize = 6;
 
 // A vertex, and an edge.
-const PART_BYTES: usize = 4;
+const PLACE_BYTES: usize = 4;
 
-const TASK_BYTES: usize = OWN_BYTES + PART_BYTES * MOST_VERTICES + PART_BYTES * MOST_EDGES;
+const TASK_BYTES: usize = OWN_BYTES + PLACE_BYTES * MOST_VERTICES + PLACE_BYTES * MOST_EDGES;
 
 fn byte_at(text: &[u8], at: usize) -> u8 {
     if text.len() <= at {
@@ -41,23 +41,23 @@ fn joined(high: u8, low: u8) -> u16 {
 }
 
 // The number in the 2 bytes at a place.
-fn number_at(text: &[u8], at: usize) -> u16
+fn two_at(text: &[u8], at: usize) -> u16
     requires { ⌜ at < recordBytes ⌝ }
 {
     joined(byte_at(text, at), byte_at(text, at + 1))
 }
 
 fn vertices_at(text: &[u8], from: usize) -> [Vertex; MOST_VERTICES]
-    requires { ⌜ from + partBytes * mostVertices ≤ recordBytes ⌝ }
+    requires { ⌜ from + placeBytes * mostVertices ≤ recordBytes ⌝ }
 {
     let none = table::no_vertex();
     let mut vertices = [none; MOST_VERTICES];
     let mut i: usize = 0;
     while i < MOST_VERTICES {
-        let at = from + PART_BYTES * i;
+        let at = from + PLACE_BYTES * i;
         vertices[i] = Vertex {
-            e: Ticks(number_at(text, at)),
-            d: Ticks(number_at(text, at + 2)),
+            e: Ticks(two_at(text, at)),
+            d: Ticks(two_at(text, at + 2)),
         };
         i += 1;
     }
@@ -65,17 +65,17 @@ fn vertices_at(text: &[u8], from: usize) -> [Vertex; MOST_VERTICES]
 }
 
 fn edges_at(text: &[u8], from: usize) -> [Edge; MOST_EDGES]
-    requires { ⌜ from + partBytes * mostEdges ≤ recordBytes ⌝ }
+    requires { ⌜ from + placeBytes * mostEdges ≤ recordBytes ⌝ }
 {
     let none = table::no_edge();
     let mut edges = [none; MOST_EDGES];
     let mut i: usize = 0;
     while i < MOST_EDGES {
-        let at = from + PART_BYTES * i;
+        let at = from + PLACE_BYTES * i;
         edges[i] = Edge {
             from: VertexNumber(byte_at(text, at)),
             to: VertexNumber(byte_at(text, at + 1)),
-            p: Ticks(number_at(text, at + 2)),
+            p: Ticks(two_at(text, at + 2)),
         };
         i += 1;
     }
@@ -85,18 +85,18 @@ fn edges_at(text: &[u8], from: usize) -> [Edge; MOST_EDGES]
 fn task_at(text: &[u8], at: usize) -> Task
     requires { ⌜ at + taskBytes ≤ recordBytes ⌝ }
 {
-    let m = Ticks(number_at(text, at));
-    let nv = number_at(text, at + 2);
-    let ne = number_at(text, at + 4);
+    let m = Ticks(two_at(text, at));
+    let nv = two_at(text, at + 2);
+    let ne = two_at(text, at + 4);
     let from = at + OWN_BYTES;
     let vertices = vertices_at(text, from);
-    let edges = edges_at(text, from + PART_BYTES * MOST_VERTICES);
+    let edges = edges_at(text, from + PLACE_BYTES * MOST_VERTICES);
     table::task_of(m, nv, ne, vertices, edges)
 }
 
 fn table_in(text: &[u8]) -> Table {
     let mut t = table::no_table();
-    t.n = number_at(text, 0) as usize;
+    t.n = two_at(text, 0) as usize;
     let mut i: usize = 0;
     while i < MOST_TASKS {
         let task = task_at(text, COUNT_BYTES + TASK_BYTES * i);

@@ -14,7 +14,7 @@ use Rattle.meaning.specs.Lists.{gather, countFrom, below}
 use Rattle.meaning.specs.Table.{Vertex, Edge, Task, Table, vertex, edge, task}
 use Rattle.meaning.specs.Sound.{SoundTask, AllSound}
 use Rattle.meaning.proofs.Lists.{mem-countFrom, count-length}
-use Rattle.cells.specs.Cells.{cellAt, verticesIn, edgesIn, taskIn, cellsTaken, tasksIn, cellsTable}
+use Rattle.cells.specs.Cells.{cellAt, verticesFrom, edgesFrom, taskFrom, cellsTaken, tasksFrom, cellsTable}
 use Rattle.cells.specs.Laid.{cellsOfTask, cellsOfTable, Laid}
 
 -- ---- places
@@ -103,7 +103,7 @@ vertexCells x = x .e ∷ x .d ∷ []
 vertex-read : (cs ys : List ℕ) (at : ℕ) (x : Vertex) → drop at cs ≡ vertexCells x ++ ys → vertexHere cs at ≡ x
 vertex-read cs ys at x h = ap₂ vertex (cell-first cs (vertexCells x ++ ys) at h) (cell-from cs (vertexCells x ++ ys) at 1 h)
 
-vertices-read : (xs : List Vertex) (cs ys : List ℕ) (at : ℕ) → drop at cs ≡ gather vertexCells xs ++ ys → verticesIn cs at (length xs) ≡ xs
+vertices-read : (xs : List Vertex) (cs ys : List ℕ) (at : ℕ) → drop at cs ≡ gather vertexCells xs ++ ys → verticesFrom cs at (length xs) ≡ xs
 vertices-read xs cs ys at h = items-read 2 vertexHere vertexCells (λ x. refl) vertex-read xs cs ys at h
 
 abbrev edgeHere : List ℕ → ℕ → Edge
@@ -119,7 +119,7 @@ edge-read cs ys at x h =
     let p = cell-from cs (edgeCells x ++ ys) at 2 h in
     rw (from, to, p)
 
-edges-read : (xs : List Edge) (cs ys : List ℕ) (at : ℕ) → drop at cs ≡ gather edgeCells xs ++ ys → edgesIn cs at (length xs) ≡ xs
+edges-read : (xs : List Edge) (cs ys : List ℕ) (at : ℕ) → drop at cs ≡ gather edgeCells xs ++ ys → edgesFrom cs at (length xs) ≡ xs
 edges-read xs cs ys at h = items-read 3 edgeHere edgeCells (λ x. refl) edge-read xs cs ys at h
 
 -- ---- a task from its cells
@@ -145,7 +145,7 @@ module _ (cs ys : List ℕ) (at : ℕ) (k : Task) (h : drop at cs ≡ cellsOfTas
   edges-are : cellAt cs (at + 1) ≡ length (k .edges)
   edges-are = cell-from cs (cellsOfTask k ++ ys) at 1 h
 
-  task-read : taskIn cs at ≡ k
+  task-read : taskFrom cs at ≡ k
   task-read =
       let m : cellAt cs (at + 2) ≡ k .m = cell-from cs (cellsOfTask k ++ ys) at 2 h in
       let vs = gather vertexCells (k .vertices) in
@@ -164,14 +164,14 @@ module _ (cs ys : List ℕ) (at : ℕ) (k : Task) (h : drop at cs ≡ cellsOfTas
 -- ---- the tasks from their cells
 
 tasks-on : (n : ℕ) (cs : List ℕ) (at : ℕ) → at < length cs
-    → tasksIn (suc n) cs at ≡ taskIn cs at ∷ tasksIn n cs (nextTask cs at)
-tasks-on n cs at h = rw (lt-ltb at (length cs) h, tasksIn)
+    → tasksFrom (suc n) cs at ≡ taskFrom cs at ∷ tasksFrom n cs (nextTask cs at)
+tasks-on n cs at h = rw (lt-ltb at (length cs) h, tasksFrom)
 
-tasks-over : (n : ℕ) (cs : List ℕ) (at : ℕ) → length cs ≤ at → tasksIn n cs at ≡ []
+tasks-over : (n : ℕ) (cs : List ℕ) (at : ℕ) → length cs ≤ at → tasksFrom n cs at ≡ []
 tasks-over zero cs at h = refl
-tasks-over (suc n) cs at h = rw (le-ltb at (length cs) h, tasksIn)
+tasks-over (suc n) cs at h = rw (le-ltb at (length cs) h, tasksFrom)
 
-tasks-read : (ts : Table) (n : ℕ) (cs : List ℕ) (at : ℕ) → length ts ≤ n → drop at cs ≡ cellsOfTable ts → tasksIn n cs at ≡ ts
+tasks-read : (ts : Table) (n : ℕ) (cs : List ℕ) (at : ℕ) → length ts ≤ n → drop at cs ≡ cellsOfTable ts → tasksFrom n cs at ≡ ts
 tasks-read [] n cs at l h = tasks-over n cs at (omega (arith, length-drop at cs, ap length h))
 tasks-read (k ∷ ks) zero cs at l h = absurd (omega arith)
 tasks-read (k ∷ ks) (suc n) cs at l h =
@@ -187,8 +187,8 @@ tasks-few (k ∷ ks) = omega (arith, length-append (cellsOfTask k) (cellsOfTable
 -- ---- the cells of a sound task are all in the list
 
 -- its last cell is a p or, where it has no edge, a d
-parts-there : (cs : List ℕ) (at v n : ℕ) → 1 ≤ v → ((x : Vertex) → List·Memᴰ x (verticesIn cs at v) → 1 ≤ x .d)
-    → ((x : Edge) → List·Memᴰ x (edgesIn cs (at + 2 * v) n) → 1 ≤ x .p) → at + 2 * v + 3 * n ≤ length cs
+parts-there : (cs : List ℕ) (at v n : ℕ) → 1 ≤ v → ((x : Vertex) → List·Memᴰ x (verticesFrom cs at v) → 1 ≤ x .d)
+    → ((x : Edge) → List·Memᴰ x (edgesFrom cs (at + 2 * v) n) → 1 ≤ x .p) → at + 2 * v + 3 * n ≤ length cs
 parts-there cs at zero n a ds ps = absurd (omega arith)
 parts-there cs at (suc v) zero a ds ps =
     omega (arith, cell-there cs (at + 2 * v + 1) (ds (vertexHere cs (at + 2 * v)) (items-mem 2 vertexHere cs at (suc v) v (omega arith))))
@@ -197,25 +197,25 @@ parts-there cs at (suc v) (suc n) a ds ps =
     omega (arith, cell-there cs (from + 3 * n + 2) (ps (edgeHere cs (from + 3 * n)) (items-mem 3 edgeHere cs from (suc n) n (omega arith))))
 
 module _ (cs : List ℕ) (at : ℕ) where
-  vertices-counted : length (taskIn cs at .vertices) ≡ cellAt cs at
+  vertices-counted : length (taskFrom cs at .vertices) ≡ cellAt cs at
   vertices-counted = count-length (λ (i : ℕ). vertexHere cs (at + 3 + 2 * i)) 0 (cellAt cs at)
 
-  edges-counted : length (taskIn cs at .edges) ≡ cellAt cs (at + 1)
+  edges-counted : length (taskFrom cs at .edges) ≡ cellAt cs (at + 1)
   edges-counted = count-length (λ (i : ℕ). edgeHere cs (at + 3 + 2 * cellAt cs at + 3 * i)) 0 (cellAt cs (at + 1))
 
-  task-there : SoundTask (taskIn cs at) → at + 3 + 2 * cellAt cs at + 3 * cellAt cs (at + 1) ≤ length cs
+  task-there : SoundTask (taskFrom cs at) → at + 3 + 2 * cellAt cs at + 3 * cellAt cs (at + 1) ≤ length cs
   task-there s =
       parts-there cs (at + 3) (cellAt cs at) (cellAt cs (at + 1)) (omega (arith, s .someVertex, vertices-counted)) (λ x m. s .eachVertex x m .someD)
       (λ x m. s .eachEdge x m .someP)
 
-  task-back : SoundTask (taskIn cs at) → cellsOfTask (taskIn cs at) ++ drop (nextTask cs at) cs ≡ drop at cs
+  task-back : SoundTask (taskFrom cs at) → cellsOfTask (taskFrom cs at) ++ drop (nextTask cs at) cs ≡ drop at cs
   task-back s =
       let v = cellAt cs at in
       let n = cellAt cs (at + 1) in
       let end : at + 3 + 2 * v + 3 * n ≤ length cs = task-there s in
       let past : nextTask cs at ≡ at + 3 + 2 * v + 3 * n = omega arith in
-      let vs = gather vertexCells (verticesIn cs (at + 3) v) in
-      let es = gather edgeCells (edgesIn cs (at + 3 + 2 * v) n) in
+      let vs = gather vertexCells (verticesFrom cs (at + 3) v) in
+      let es = gather edgeCells (edgesFrom cs (at + 3 + 2 * v) n) in
       let behind = drop (at + 3 + 2 * v + 3 * n) cs in
       let fromEdges : drop (at + 3 + 2 * v) cs ≡ es ++ behind
       = items-back 3 edgeHere edgeCells (λ x. refl) drop-three n cs (at + 3 + 2 * v) end in
@@ -228,19 +228,19 @@ module _ (cs : List ℕ) (at : ℕ) where
       ∙ sym (drop-three cs at (omega arith))
 
 -- with n the cells from there on or more
-tasks-back : (n : ℕ) (cs : List ℕ) (at : ℕ) → length cs ≤ at + n → AllSound (tasksIn n cs at) → cellsOfTable (tasksIn n cs at) ≡ drop at cs
+tasks-back : (n : ℕ) (cs : List ℕ) (at : ℕ) → length cs ≤ at + n → AllSound (tasksFrom n cs at) → cellsOfTable (tasksFrom n cs at) ≡ drop at cs
 tasks-back zero cs at l s = sym (drop-of-length-le cs {i = at} (omega arith))
 tasks-back (suc n) cs at l s = go (ltb at (length cs)) refl (λ j. tasks-back n cs j)
   where
     go : (b : Bool) → ltb at (length cs) ≡ b
-        → ((j : ℕ) → length cs ≤ j + n → AllSound (tasksIn n cs j) → cellsOfTable (tasksIn n cs j) ≡ drop j cs)
-        → cellsOfTable (tasksIn (suc n) cs at) ≡ drop at cs
+        → ((j : ℕ) → length cs ≤ j + n → AllSound (tasksFrom n cs j) → cellsOfTable (tasksFrom n cs j) ≡ drop j cs)
+        → cellsOfTable (tasksFrom (suc n) cs at) ≡ drop at cs
     go true e ih =
         let on = tasks-on n cs at (ltb-true at (length cs) e) in
-        let sound : AllSound (taskIn cs at ∷ tasksIn n cs (nextTask cs at)) = subst AllSound on s in
+        let sound : AllSound (taskFrom cs at ∷ tasksFrom n cs (nextTask cs at)) = subst AllSound on s in
         ap cellsOfTable on
-        ∙ ap (λ (l : List ℕ). cellsOfTask (taskIn cs at) ++ l) (ih (nextTask cs at) (omega arith) (λ k m. sound k (List·Memᴰ·tail m)))
-        ∙ task-back cs at (sound (taskIn cs at) (List·Memᴰ·head refl))
+        ∙ ap (λ (l : List ℕ). cellsOfTask (taskFrom cs at) ++ l) (ih (nextTask cs at) (omega arith) (λ k m. sound k (List·Memᴰ·tail m)))
+        ∙ task-back cs at (sound (taskFrom cs at) (List·Memᴰ·head refl))
     go false e ih =
         let over : length cs ≤ at = ltb-false at (length cs) e in
         ap cellsOfTable (tasks-over (suc n) cs at over) ∙ sym (drop-of-length-le cs {i = at} over)

@@ -20,7 +20,7 @@ use Rattle.table.specs.Inner.{noTable}
 use Rattle.table.proofs.Holding.{heldTask, task-vertices, task-edges, oneMore, tasks-put, tasks-counted}
 use Rattle.checks.specs.Checks.{brokenBy, andThen, taskCheck, ownCheck, linesOfTask, ninthCheck, tableCheck}
 use Rattle.checks.proofs.Tables.{taskOrder}
-use Rattle.cells.specs.Cells.{cellAt, taskIn, cellsTaken, tasksIn, cellsTable}
+use Rattle.cells.specs.Cells.{cellAt, taskFrom, cellsTaken, tasksFrom, cellsTable}
 use Rattle.cells.specs.Inner.{narrowTask, TaskRead, WrittenAlike}
 use Rattle.cells.proofs.Alike.{Alike, alike-self, alike-cut, alike-more, alike-written}
 use Rattle.cells.proofs.Narrowed.{task-alike}
@@ -28,7 +28,7 @@ use Rattle.cells.proofs.Narrowed.{task-alike}
 -- ---- the tasks that are left, after i of them
 
 abbrev left : List ℕ → ℕ → ℕ → Meant.Table
-left cs i at = tasksIn (length cs - i) cs at
+left cs i at = tasksFrom (length cs - i) cs at
 
 abbrev next : List ℕ → ℕ → ℕ
 next cs at = at + cellsTaken (cellAt cs at) (cellAt cs (at + 1))
@@ -36,16 +36,16 @@ next cs at = at + cellsTaken (cellAt cs at) (cellAt cs (at + 1))
 left-none : (cs : List ℕ) (i at : ℕ) → length cs ≤ at → left cs i at ≡ []
 left-none cs i at h = go (length cs - i)
   where
-    go : (n : ℕ) → tasksIn n cs at ≡ []
+    go : (n : ℕ) → tasksFrom n cs at ≡ []
     go zero = refl
     go (suc n) =
-        ap (λ (b : Bool). elim b [ true ↦ taskIn cs at ∷ tasksIn n cs (next cs at) | false ↦ [] ]) (le-ltb at (length cs) h)
+        ap (λ (b : Bool). elim b [ true ↦ taskFrom cs at ∷ tasksFrom n cs (next cs at) | false ↦ [] ]) (le-ltb at (length cs) h)
 
-left-some : (cs : List ℕ) (i at : ℕ) → i ≤ at → at < length cs → left cs i at ≡ taskIn cs at ∷ left cs (i + 1) (next cs at)
+left-some : (cs : List ℕ) (i at : ℕ) → i ≤ at → at < length cs → left cs i at ≡ taskFrom cs at ∷ left cs (i + 1) (next cs at)
 left-some cs i at l h =
     let o : length cs - i ≡ suc (length cs - (i + 1)) = omega arith in
-    ap (λ (n : ℕ). tasksIn n cs at) o
-    ∙ ap (λ (b : Bool). elim b [ true ↦ taskIn cs at ∷ tasksIn (length cs - (i + 1)) cs (next cs at) | false ↦ [] ]) (lt-ltb at (length cs) h)
+    ap (λ (n : ℕ). tasksFrom n cs at) o
+    ∙ ap (λ (b : Bool). elim b [ true ↦ taskFrom cs at ∷ tasksFrom (length cs - (i + 1)) cs (next cs at) | false ↦ [] ]) (lt-ltb at (length cs) h)
 
 -- ---- a task with too many vertices or edges
 
@@ -82,7 +82,7 @@ none cs =
       few = omega arith;
       size = length-replicate mostTasks noTask;
       passed = omega arith;
-      alike = λ xs h. subst (λ (n : ℕ). Alike (tableCheck 0 1) xs (tasksIn n cs 0)) (sub-zero (length cs)) (h 1);
+      alike = λ xs h. subst (λ (n : ℕ). Alike (tableCheck 0 1) xs (tasksFrom n cs 0)) (sub-zero (length cs)) (h 1);
     }
 
 pub turn-first : (cs : List ℕ) {t : Table} → t ≡ noTable → Turn cs t 0
@@ -102,13 +102,13 @@ module _ {cs : List ℕ} {t : Table} {at : ℕ} (h : Turn cs t at) where
     abbrev behind : Meant.Table
     behind = left cs (t .n + 1) (next cs at)
 
-    opened : {xs : Meant.Table} (n : ℕ) → Alike (tableCheck (t .n) n) xs (taskIn cs at ∷ behind) → Alike (tableCheck (t .n) n) xs (left cs (t .n) at)
+    opened : {xs : Meant.Table} (n : ℕ) → Alike (tableCheck (t .n) n) xs (taskFrom cs at ∷ behind) → Alike (tableCheck (t .n) n) xs (left cs (t .n) at)
     opened {xs} n a = subst (Alike (tableCheck (t .n) n) xs) (sym (left-some cs (t .n) at (h .passed) more)) a
 
     pub turn-ninth : t .n ≡ mostTasks → WrittenAlike cs (oneMore t (t .tasks))
     turn-ninth e =
         closed (oneMore t (t .tasks)) (heldTask (t .tasks) (t .n) ∷ []) (tasks-counted t)
-        (λ n. opened n (alike-cut taskOrder (t .n, n) (ninth n (heldTask (t .tasks) (t .n))) (ninth n (taskIn cs at))))
+        (λ n. opened n (alike-cut taskOrder (t .n, n) (ninth n (heldTask (t .tasks) (t .n))) (ninth n (taskFrom cs at))))
       where
         ninth : (n : ℕ) (k : Meant.Task) → andThen (ninthCheck (t .n) n) (taskCheck n k) ≡ brokenBy WrongFrame n
         ninth n k = rw (le-leb mostTasks (t .n) (omega (arith, e)))
@@ -132,22 +132,22 @@ module _ {cs : List ℕ} {t : Table} {at : ℕ} (h : Turn cs t at) where
           (λ n. opened n
           (alike-cut taskOrder (t .n, n)
           (out n (taskHeld k) (λ a b. many (omega (arith, task-vertices k)) (omega (arith, task-edges k))))
-          (out n (taskIn cs at) (λ a b. many (omega (arith, r .vertex-count, vertices)) (omega (arith, r .edge-count, edges))))))
+          (out n (taskFrom cs at) (λ a b. many (omega (arith, r .vertex-count, vertices)) (omega (arith, r .edge-count, edges))))))
         where
           out : (n : ℕ) (x : Meant.Task) → (length (x .vertices) ≤ mostVertices → length (x .edges) ≤ mostEdges → ⊥)
               → andThen (ninthCheck (t .n) n) (taskCheck n x) ≡ brokenBy OutOfBounds n
           out n x m = one n x ∙ many-broken n x m
 
-          vertices : length (taskIn cs at .vertices) ≡ cellAt cs at
+          vertices : length (taskFrom cs at .vertices) ≡ cellAt cs at
           vertices = count-length _ 0 (cellAt cs at)
 
-          edges : length (taskIn cs at .edges) ≡ cellAt cs (at + 1)
+          edges : length (taskFrom cs at .edges) ≡ cellAt cs (at + 1)
           edges = count-length _ 0 (cellAt cs (at + 1))
 
       module _ (a : k .nv ≤ mostVertices) (b : k .ne ≤ mostEdges) where
-        taken-alike : (n : ℕ) → Alike (taskOrder .one (t .n, n)) (taskHeld k) (taskIn cs at)
+        taken-alike : (n : ℕ) → Alike (taskOrder .one (t .n, n)) (taskHeld k) (taskFrom cs at)
         taken-alike n =
-            let x = taskIn cs at in
+            let x = taskFrom cs at in
             let u = task-alike n x in
             subst (λ (y : Meant.Task). Alike (taskOrder .one (t .n, n)) y x) (sym (r .held a b))
             (record { same = one n (narrowTask x) ∙ u .same ∙ sym (one n x); kept = λ q. u .kept (sym (one n x) ∙ q) })
@@ -162,7 +162,7 @@ module _ {cs : List ℕ} {t : Table} {at : ℕ} (h : Turn cs t at) where
               size = length-set (t .tasks) (t .n) k ∙ h .size;
               passed = omega (arith, h .passed);
               alike = λ xs g.
-                  let lines = linesOfTask (taskIn cs at) in
+                  let lines = linesOfTask (taskFrom cs at) in
                   subst (AlikeCells cs)
                   (sym (ap (λ (us : Meant.Table). us ++ xs) taken-held ∙ append-assoc (tableHeld t) (taskHeld k ∷ []) xs))
                   (h .alike (taskHeld k ∷ xs)

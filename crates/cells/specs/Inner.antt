@@ -14,7 +14,7 @@ use Rattle.table.specs.declared.Table.{Table}
 use Rattle.table.specs.Record.{verticesHeld, edgesHeld, taskHeld, tableHeld}
 use Rattle.writer.specs.declared.Written.{Written}
 use Rattle.writer.specs.Written.{writtenNumbers}
-use Rattle.cells.specs.Cells.{cellAt, verticesIn, edgesIn, taskIn, cellsTaken, cellsTable}
+use Rattle.cells.specs.Cells.{cellAt, verticesFrom, edgesFrom, taskFrom, cellsTaken, cellsTable}
 
 -- ---- places
 
@@ -34,16 +34,16 @@ narrowTask k = task (k .m) (k .vertices) (map narrowEdge (k .edges))
 -- ---- parts of a record, from their cells, where they have room
 
 abbrev pub VerticesRead : List ℕ → ℕ → ℕ → List Vertex → Type 0
-VerticesRead cs from n vs = n ≤ mostVertices → verticesHeld vs n ≡ verticesIn cs from n
+VerticesRead cs from n vs = n ≤ mostVertices → verticesHeld vs n ≡ verticesFrom cs from n
 
 abbrev pub EdgesRead : List ℕ → ℕ → ℕ → List Edge → Type 0
-EdgesRead cs from n es = n ≤ mostEdges → edgesHeld es n ≡ map narrowEdge (edgesIn cs from n)
+EdgesRead cs from n es = n ≤ mostEdges → edgesHeld es n ≡ map narrowEdge (edgesFrom cs from n)
 
 -- the counts are the cells' in any case
 pub record TaskRead (cs : List ℕ) (at : ℕ) (k : Task) : Type 0 where
   pub vertex-count : k .nv ≡ cellAt cs at
   pub edge-count : k .ne ≡ cellAt cs (at + 1)
-  pub held : k .nv ≤ mostVertices → k .ne ≤ mostEdges → taskHeld k ≡ narrowTask (taskIn cs at)
+  pub held : k .nv ≤ mostVertices → k .ne ≤ mostEdges → taskHeld k ≡ narrowTask (taskFrom cs at)
 
 -- ---- the table
 

@@ -1,4 +1,4 @@
-// For a host that has no record of a table: "a task's counts and m, then its vertices, then its edges, task after task", in one list of 16-bit cells.
+// For a host that has no record of a table: a task's counts and m, then its vertices, then its edges, task after task, in one list of 16-bit cells.
 //
 // The record of such a list, and its text. A list that ends inside a task has 0 for the cells that it lacks, and 0 breaks a rule.
 use bounds::MOST_EDGES;
@@ -42,7 +42,7 @@ fn vertex_number(n: u16) -> VertexNumber
 }
 
 // n vertices, or as many as a task may have.
-fn vertices_in(cells: &[u16], from: usize, n: usize) -> [Vertex; MOST_VERTICES]
+fn vertices_from(cells: &[u16], from: usize, n: usize) -> [Vertex; MOST_VERTICES]
     requires { ⌜ Near (now cells) from ⌝ }
     ensures { λ r. ⌜ VerticesRead (now (cells .entry)) from n r ⌝ }
 {
@@ -65,7 +65,7 @@ fn vertices_in(cells: &[u16], from: usize, n: usize) -> [Vertex; MOST_VERTICES]
 }
 
 // n edges, or as many as a task may have.
-fn edges_in(cells: &[u16], from: usize, n: usize) -> [Edge; MOST_EDGES]
+fn edges_from(cells: &[u16], from: usize, n: usize) -> [Edge; MOST_EDGES]
     requires { ⌜ Near (now cells) from ⌝ }
     ensures { λ r. ⌜ EdgesRead (now (cells .entry)) from n r ⌝ }
 {
@@ -88,7 +88,7 @@ fn edges_in(cells: &[u16], from: usize, n: usize) -> [Edge; MOST_EDGES]
     edges
 }
 
-fn task_in(cells: &[u16], at: usize) -> Task
+fn task_from(cells: &[u16], at: usize) -> Task
     requires { ⌜ at ≤ length (now cells) ⌝ }
     ensures { λ r. ⌜ TaskRead (now (cells .entry)) at r ⌝ }
 {
@@ -96,13 +96,13 @@ fn task_in(cells: &[u16], at: usize) -> Task
     let ne = cell(cells, at + 1);
     let m = Ticks(cell(cells, at + 2));
     let from = at + OWN_CELLS;
-    let vertices = vertices_in(cells, from, nv as usize);
-    let edges = edges_in(cells, from + VERTEX_CELLS * (nv as usize), ne as usize);
+    let vertices = vertices_from(cells, from, nv as usize);
+    let edges = edges_from(cells, from + VERTEX_CELLS * (nv as usize), ne as usize);
     table::task_of(m, nv, ne, vertices, edges)
 }
 
 // Up to the first task that has too many vertices or edges, or is the ninth: that one breaks a rule, and what lies behind it plays no part.
-fn table_in(cells: &[u16]) -> Table
+fn table_from(cells: &[u16]) -> Table
     ensures { λ r. ⌜ WrittenAlike (now (cells .entry)) r ⌝ }
 {
     let mut t = table::no_table();
@@ -113,7 +113,7 @@ fn table_in(cells: &[u16]) -> Table
         if k == MOST_TASKS {
             return t;
         }
-        let task = task_in(cells, at);
+        let task = task_from(cells, at);
         t.tasks[k] = task;
         if MOST_VERTICES < task.nv as usize {
             return t;
@@ -129,5 +129,5 @@ fn table_in(cells: &[u16]) -> Table
 pub fn write_cells(cells: &[u16], out: &mut [u8]) -> Written
     ensures { λ r. ⌜ CellsWritten (now (cells .entry)) (now (out .entry)) r (now (out .exit)) ⌝ }
 {
-    writer::write(table_in(cells), out)
+    writer::write(table_from(cells), out)
 }

@@ -77,22 +77,22 @@ fn check_vertices(vertices: [Vertex; MOST_VERTICES], n: usize, line: u32) -> Che
     Check::Kept
 }
 
-// The lines of m edges, from `line` on, in a task of n vertices; each edge leaves the places from `least` on to the next. The tests stand here and not in a
+// The lines of so many edges, from `line` on, in a task of n vertices; each edge leaves the places from `least` on to the next. The tests stand here and not in a
 // function of their own, to which all vertices would be copied for each edge.
 fn check_edges(
     vertices: [Vertex; MOST_VERTICES],
     n: usize,
     edges: [Edge; MOST_EDGES],
-    m: usize,
+    count: usize,
     line: u32,
 ) -> Check
-    requires { ⌜ (n ≤ mostVertices) × (m ≤ mostEdges) × (line ≤ lastLine + n) ⌝ }
-    ensures { λ r. ⌜ r ≡ edgesCheck (verticesHeld vertices n) 0 line (edgesHeld edges m) ⌝ }
+    requires { ⌜ (n ≤ mostVertices) × (count ≤ mostEdges) × (line ≤ lastLine + n) ⌝ }
+    ensures { λ r. ⌜ r ≡ edgesCheck (verticesHeld vertices n) 0 line (edgesHeld edges count) ⌝ }
 {
     let mut least: u32 = 0;
     let mut at = line;
     let mut i: usize = 0;
-    while i < m {
+    while i < count {
         let x = edges[i];
         let p = x.p.0 as u32;
         if !edge_in(n as u32, x.from.0 as u32, x.to.0 as u32, p) {

@@ -1,4 +1,4 @@
--- What a C host is told of a judging: the answer's numbers, and every cell of the lent areas.
+-- What a C host is told of a judging and of a writing: the answer's numbers, and every cell of the lent areas.
 use mathlib.Core.Path.{_≡_}
 use Prim.Native.Nat.{ℕ, _+_, _*_}
 use mathlib.Core.List.{List}

@@ -1,4 +1,4 @@
-// "The customer desk's C host calls the text check directly": `text_check` is the reader's. Here it has the project's name too, beside the judging calls
+// "The customer desk's C host calls the text check directly": `text_check` is the reader's. Here it has the project's name too, beside the writer and the judging calls
 // that a C host may want, over numbers and slices. A slice comes from C as a pointer and a length; an empty one may have a null pointer.
 //
 // Names that a C program sees start with the project's. A vertex's value, place and finish come back behind pointers, C's way to return more than one

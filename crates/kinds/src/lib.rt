@@ -48,7 +48,7 @@ pub enum Refusal {
     InputTooLong,
 }
 
-// The refusal, and what is returned with it: a line, a task, the cells needed, or zero.
+// The refusal, and what is returned with it: a line, a task, the cells or bytes needed, or zero.
 pub struct RefusedAt {
     pub refusal: Refusal,
     pub place: u32,

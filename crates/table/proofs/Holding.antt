@@ -75,7 +75,7 @@ module _ (t : Table) where
       ap (λ (m : ℕ). map (heldTask (t .tasks)) (below m)) (add-one (t .n)) ∙ count-more (heldTask (t .tasks)) 0 (t .n)
       ∙ ap (λ (i : ℕ). map (heldTask (t .tasks)) (below (t .n)) ++ (heldTask (t .tasks) i ∷ [])) (zero-add (t .n))
 
--- ---- the largest e: beyond the array stands nothing, whose e is 0
+-- ---- the largest e: beyond the array stand zeros
 
 abbrev largestAt : List Vertex → ℕ → ℕ → ℕ
 largestAt xs k n = Meant.largestEIn (map (heldVertex xs) (countFrom k n))

@@ -1,4 +1,4 @@
--- The record of a table, every cell of it.
+-- The record of a table, every cell of it, and the table that a record holds.
 use Prim.Native.Nat.{ℕ, _-_}
 use mathlib.Core.List.{List, [], _++_, map}
 use lib.ListN.{length, getD, replicate}

@@ -44,7 +44,7 @@ number-of e = cc
 value-of : {a b c d : ℕ} → a ∷ b ∷ [] ≡ c ∷ d ∷ [] → b ≡ d
 value-of e = cc
 
-same-written : (r s : Written) → writtenNumbers r ≡ writtenNumbers s → r ≡ s
+pub same-written : (r s : Written) → writtenNumbers r ≡ writtenNumbers s → r ≡ s
 same-written (Bytes n) (Bytes m) e = ap Bytes (value-of e)
 same-written (Bytes n) (Refused at) e = absurd (omega (arith, number-of e, number-some (at .refusal)))
 same-written (Refused at) (Bytes m) e = absurd (omega (arith, number-of e, number-some (at .refusal)))
@@ -156,7 +156,8 @@ module _ {t : Table} {before : List ℕ} {r : Written} {after : List ℕ} (w : W
         no-task = λ e. ruled-gets 2 1 (ap ruled (none-held e) ∙ none-ruled);
         ninth = λ h s. line-gets 2 mostTasks (ninth-ruled ts (omega (arith, h, tasks-length t)) s);
         counts = λ i h o. line-gets 3 i (counts-ruled ts i (omega (arith, h .0, tasks-length t)) (h .1) (h .2) o);
-        mask = λ i h a b c d e m. ruled-gets 3 _ (mask-ruled ts i (omega (arith, h .0, tasks-length t)) (h .1) (h .2) a b c d e m ∙ ap (unreadable 3) (omega arith));
+        mask = λ i h a b c d e m.
+            ruled-gets 3 _ (mask-ruled ts i (omega (arith, h .0, tasks-length t)) (h .1) (h .2) a b c d e m ∙ ap (unreadable 3) (omega arith));
         unchanged = refused-as;
         rest = λ n e. rest n (written-as n e);
       }
@@ -208,4 +209,4 @@ one-text text other q o p r s u e =
     sym (text-of-read text (tableHeld (q .table)) (means-held text q p s)) ∙ ap textOf e ∙ text-of-read other (tableHeld (o .table)) (means-held other o r u)
 
 pub demands : Demands
-demands = record { held = table-held-record; read-back = read-back; written-back = written-back; one-text = one-text; calls = λ t before r after w. call w }
+demands = record { record-holds = table-held-record; read-back = read-back; written-back = written-back; one-text = one-text; calls = λ t before r after w. call w }

@@ -22,9 +22,9 @@ use Rattle.writer.specs.Written.{writtenNumbers, Writes}
 
 -- ---- there and back
 
--- what a record of a table holds is that table
-abbrev pub Held : Type 0
-Held = (ts : Meant.Table) → tableHeld (tableRecord ts) ≡ ts
+-- what the record of a table holds is that table
+abbrev pub RecordHolds : Type 0
+RecordHolds = (ts : Meant.Table) → tableHeld (tableRecord ts) ≡ ts
 
 -- "Reading what was written gives the same tasks, masked lengths, vertices and edges": of the n bytes that were written; what stands behind them in the
 -- area is no part of the text.
@@ -32,7 +32,7 @@ abbrev pub ReadBack : Type 0
 ReadBack = (t : Table) (before : List ℕ) (n : ℕ) (after : List ℕ) (q : Reading) → Writes t before (Bytes n) after → Reads (take n after) q
     → (q .status ≡ Readable) × (tableHeld (q .table) ≡ tableHeld t)
 
--- "Writing what was read gives the same bytes", in any area that has room for them; else 10.
+-- "Writing what was read gives the same bytes", in any area that has room for them; `short` below says what is where there is none.
 abbrev pub WrittenBack : Type 0
 WrittenBack = (text : List ℕ) (q : Reading) (before : List ℕ) (r : Written) (after : List ℕ) → Reads text q → q .status ≡ Readable
     → length text ≤ length before → Writes (q .table) before r after → (r ≡ Bytes (length text)) × (take (length text) after ≡ text)
@@ -92,7 +92,7 @@ WriteDemands = (t : Table) (before : List ℕ) (r : Written) (after : List ℕ) 
 
 -- the page
 pub record Demands : Type 0 where
-  pub held : Held
+  pub record-holds : RecordHolds
   pub read-back : ReadBack
   pub written-back : WrittenBack
   pub one-text : OneText

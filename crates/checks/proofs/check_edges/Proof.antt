@@ -16,11 +16,11 @@ use Rattle.checks.proofs.check_edges.Statement.{statement}
 use Rattle.checks.proofs.check_edges.Tie as tie
 
 abbrev Inv-loop : tie.InvT-loop
-Inv-loop n m line vertices edges least₀ at₀ i₀ least at i =
-    (at ≡ line + i) × Rest (edgeOrder (verticesHeld vertices n)) (heldEdge edges) m (0, line) (least, at) i
+Inv-loop n count line vertices edges least₀ at₀ i₀ least at i =
+    (at ≡ line + i) × Rest (edgeOrder (verticesHeld vertices n)) (heldEdge edges) count (0, line) (least, at) i
 
 abbrev μ-loop : tie.MeasureT-loop
-μ-loop n m line vertices edges least₀ at₀ i₀ least at i = m - i
+μ-loop n count line vertices edges least₀ at₀ i₀ least at i = count - i
 
 -- ---- the places on the way: the edge is inside its bounds, it is spaced
 
@@ -37,7 +37,7 @@ spaced : (c : tie.Else2 Inv-loop μ-loop) →
 spaced c = held (c .before .edge-spaced .ensures) (c .if2 .left)
 
 loop-holds : tie.Need-loop-holds Inv-loop μ-loop
-loop-holds c = (omega arith, rest-all (edgeOrder (verticesHeld (c .args .t1) (c .args .n))) (heldEdge (c .args .t3)) (c .args .m) (0, c .args .line))
+loop-holds c = (omega arith, rest-all (edgeOrder (verticesHeld (c .args .t1) (c .args .n))) (heldEdge (c .args .t3)) (c .args .count) (0, c .args .line))
 
 mul-x : tie.Need-mul-x Inv-loop μ-loop
 mul-x c = search needs

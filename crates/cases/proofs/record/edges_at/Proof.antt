@@ -31,11 +31,11 @@ add-byte-at c = search needs
 byte-at-requires-2 : tie.Need-byte-at-requires-2 Inv-loop μ-loop
 byte-at-requires-2 c κs = search needs
 
-add-number-at : tie.Need-add-number-at Inv-loop μ-loop
-add-number-at c = search needs
+add-two-at : tie.Need-add-two-at Inv-loop μ-loop
+add-two-at c = search needs
 
-number-at-requires : tie.Need-number-at-requires Inv-loop μ-loop
-number-at-requires c κs = search needs
+two-at-requires : tie.Need-two-at-requires Inv-loop μ-loop
+two-at-requires c κs = search needs
 
 mul-edges : tie.Need-mul-edges Inv-loop μ-loop
 mul-edges c = search needs
@@ -68,8 +68,8 @@ edges-at-spec =
     byte-at-requires
     add-byte-at
     byte-at-requires-2
-    add-number-at
-    number-at-requires
+    add-two-at
+    two-at-requires
     mul-edges
     array-set-from-edges
     add-i

@@ -13,8 +13,8 @@ abbrev μ-loop : tie.MeasureT-loop
 no-table-requires : tie.Need-no-table-requires Inv-loop μ-loop
 no-table-requires c κs = search needs
 
-number-at-requires : tie.Need-number-at-requires Inv-loop μ-loop
-number-at-requires c κs = search needs
+two-at-requires : tie.Need-two-at-requires Inv-loop μ-loop
+two-at-requires c κs = search needs
 
 cast-t : tie.Need-cast-t Inv-loop μ-loop
 cast-t c = search needs
@@ -56,7 +56,7 @@ table-in-spec =
     Inv-loop
     μ-loop
     no-table-requires
-    number-at-requires
+    two-at-requires
     cast-t
     loop-holds
     mul-task-at

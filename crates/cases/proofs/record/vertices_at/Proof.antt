@@ -22,14 +22,14 @@ mul-at c = search needs
 add-at : tie.Need-add-at Inv-loop μ-loop
 add-at c = search needs
 
-number-at-requires : tie.Need-number-at-requires Inv-loop μ-loop
-number-at-requires c κs = search needs
+two-at-requires : tie.Need-two-at-requires Inv-loop μ-loop
+two-at-requires c κs = search needs
 
-add-number-at : tie.Need-add-number-at Inv-loop μ-loop
-add-number-at c = search needs
+add-two-at : tie.Need-add-two-at Inv-loop μ-loop
+add-two-at c = search needs
 
-number-at-requires-2 : tie.Need-number-at-requires-2 Inv-loop μ-loop
-number-at-requires-2 c κs = search needs
+two-at-requires-2 : tie.Need-two-at-requires-2 Inv-loop μ-loop
+two-at-requires-2 c κs = search needs
 
 mul-vertices : tie.Need-mul-vertices Inv-loop μ-loop
 mul-vertices c = search needs
@@ -59,9 +59,9 @@ vertices-at-spec =
     loop-holds
     mul-at
     add-at
-    number-at-requires
-    add-number-at
-    number-at-requires-2
+    two-at-requires
+    add-two-at
+    two-at-requires-2
     mul-vertices
     array-set-from-vertices
     add-i

@@ -2,8 +2,8 @@ use native.Mathlib.Omega.{arith}
 use Prim.Native.Nat.{_-_}
 use Rattle.cells.proofs.Filled.{EdgeTurn, edges-none, edges-more, edges-all}
 use borrow.Author.Needs.{needs}
-use Rattle.cells.proofs.edges_in.Statement.{statement}
-use Rattle.cells.proofs.edges_in.Tie as tie
+use Rattle.cells.proofs.edges_from.Statement.{statement}
+use Rattle.cells.proofs.edges_from.Tie as tie
 
 abbrev Inv-loop : tie.InvT-loop
 Inv-loop cells from n edges₀ at₀ i₀ edges at i = EdgeTurn cells from n edges at i
@@ -66,8 +66,8 @@ loop-again c =
 returns-2 : tie.Need-returns-2 Inv-loop μ-loop
 returns-2 c = edges-all (c .before .loop .inv) (c .loop-test .left)
 
-pub edges-in-spec : {M : Type 1} → statement M
-edges-in-spec =
+pub edges-from-spec : {M : Type 1} → statement M
+edges-from-spec =
     tie.close
     (tie.spec
     Inv-loop

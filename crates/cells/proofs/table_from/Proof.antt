@@ -3,8 +3,8 @@ use Prim.Native.Nat.{_-_}
 use lib.ListN.{length}
 use Rattle.cells.proofs.Turns.{Turn, turn-first, turn-end, turn-ninth, turn-cut, turn-more}
 use borrow.Author.Needs.{needs}
-use Rattle.cells.proofs.table_in.Statement.{statement}
-use Rattle.cells.proofs.table_in.Tie as tie
+use Rattle.cells.proofs.table_from.Statement.{statement}
+use Rattle.cells.proofs.table_from.Tie as tie
 
 abbrev Inv-loop : tie.InvT-loop
 Inv-loop cells t₀ at₀ t at = Turn cells t at
@@ -24,8 +24,8 @@ add-t c = search needs
 returns : tie.Need-returns Inv-loop μ-loop
 returns c = turn-ninth (c .before .before .loop .inv) (c .before .loop-test .taken) (c .if1 .taken)
 
-task-in-requires : tie.Need-task-in-requires Inv-loop μ-loop
-task-in-requires c κs = search needs
+task-from-requires : tie.Need-task-from-requires Inv-loop μ-loop
+task-from-requires c κs = search needs
 
 mul-task : tie.Need-mul-task Inv-loop μ-loop
 mul-task c = search needs
@@ -40,7 +40,7 @@ returns-2 : tie.Need-returns-2 Inv-loop μ-loop
 returns-2 c =
     let read = c .before .before in
     let test = read .before in
-    turn-cut (test .before .before .loop .inv) (test .before .loop-test .taken) (test .if1 .left) (read .task-in .ensures)
+    turn-cut (test .before .before .loop .inv) (test .before .loop-test .taken) (test .if1 .left) (read .task-from .ensures)
     (λ a b. omega (arith, c .if2 .taken))
 
 cast-if3 : tie.Need-cast-if3 Inv-loop μ-loop
@@ -50,7 +50,7 @@ returns-3 : tie.Need-returns-3 Inv-loop μ-loop
 returns-3 c =
     let read = c .before .before .before .before in
     let test = read .before in
-    turn-cut (test .before .before .loop .inv) (test .before .loop-test .taken) (test .if1 .left) (read .task-in .ensures)
+    turn-cut (test .before .before .loop .inv) (test .before .loop-test .taken) (test .if1 .left) (read .task-from .ensures)
     (λ a b. omega (arith, c .if3 .taken))
 
 cast-at : tie.Need-cast-at Inv-loop μ-loop
@@ -82,14 +82,14 @@ loop-again c =
     let vertices = c .before .before .before .before in
     let read = vertices .before .before in
     let test = read .before in
-    turn-more (test .before .before .loop .inv) (test .before .loop-test .taken) (test .if1 .left) (read .task-in .ensures) (vertices .if2 .left)
+    turn-more (test .before .before .loop .inv) (test .before .loop-test .taken) (test .if1 .left) (read .task-from .ensures) (vertices .if2 .left)
     (c .before .before .if3 .left)
 
 returns-4 : tie.Need-returns-4 Inv-loop μ-loop
 returns-4 c = turn-end (c .before .loop .inv) (c .loop-test .left)
 
-pub table-in-spec : {M : Type 1} → statement M
-table-in-spec =
+pub table-from-spec : {M : Type 1} → statement M
+table-from-spec =
     tie.close
     (tie.spec
     Inv-loop
@@ -98,7 +98,7 @@ table-in-spec =
     loop-holds
     add-t
     returns
-    task-in-requires
+    task-from-requires
     mul-task
     element-set-from-task
     cast-if2

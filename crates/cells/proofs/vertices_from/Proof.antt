@@ -2,8 +2,8 @@ use native.Mathlib.Omega.{arith}
 use Prim.Native.Nat.{_-_}
 use Rattle.cells.proofs.Filled.{VertexTurn, vertices-none, vertices-more, vertices-all}
 use borrow.Author.Needs.{needs}
-use Rattle.cells.proofs.vertices_in.Statement.{statement}
-use Rattle.cells.proofs.vertices_in.Tie as tie
+use Rattle.cells.proofs.vertices_from.Statement.{statement}
+use Rattle.cells.proofs.vertices_from.Tie as tie
 
 abbrev Inv-loop : tie.InvT-loop
 Inv-loop cells from n vertices₀ at₀ i₀ vertices at i = VertexTurn cells from n vertices at i
@@ -52,8 +52,8 @@ loop-again c =
 returns-2 : tie.Need-returns-2 Inv-loop μ-loop
 returns-2 c = vertices-all (c .before .loop .inv) (c .loop-test .left)
 
-pub vertices-in-spec : {M : Type 1} → statement M
-vertices-in-spec =
+pub vertices-from-spec : {M : Type 1} → statement M
+vertices-from-spec =
     tie.close
     (tie.spec
     Inv-loop
