@@ -122,17 +122,18 @@ module _ {t : Table} {bytes line i : ℕ} (h : Turn t bytes line i) where
       unfolding tableHeld
       turn-broken {at} e = found-checked t 0 (Broken at) (rest-broken (h .rest) more one e) broken-apart
 
-      pub turn-more : {b : ℕ} → c ≡ Kept → b ≡ taskBytes (cell t i .m .0)
-          → Turn t (bytes + (b + partBytes * (cell t i .nv + cell t i .ne))) (line + (1 + cell t i .nv + cell t i .ne)) (i + 1)
-      turn-more e q =
+      pub turn-more : {b next at : ℕ} → c ≡ Kept → b ≡ taskBytes (cell t i .m .0) → next ≡ bytes + b + partBytes * (cell t i .nv + cell t i .ne)
+          → at ≡ line + 1 + cell t i .nv + cell t i .ne → Turn t next at (i + 1)
+      turn-more e q size place =
           let k = kept-bounds (cell t i) line (sym f ∙ e) in
           let l = few-bytes (cell t i .m .0) q in
           let opened = ap bytesIn (parts-next (heldTask (t .tasks)) (t .n) i more) in
+          let lines = held-lines (cell t i) in
           record {
             few = omega arith;
             early = omega (arith, h .early);
             small = omega (arith, h .small);
-            rest = rest-kept (h .rest) more one e (ap {B = ℕ × ℕ} (λ (l : ℕ). (i + 1, line + l)) (sym (held-lines (cell t i))));
+            rest = rest-kept (h .rest) more one e (ap {B = ℕ × ℕ} (λ (l : ℕ). (i + 1, l)) (omega (arith, place, lines)));
             size = omega (arith, h .size, opened, held-bytes (cell t i));
           }
 

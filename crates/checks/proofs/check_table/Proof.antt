@@ -96,7 +96,7 @@ loop-again c =
     let few = call .before .before in
     let turn = few .before in
     turn-more (turn .before .loop .inv) (turn .loop-test .taken) (few .if1 .left) (call .check-task .ensures) (told .enum-told .given .1)
-    (size .task-bytes .ensures)
+    (size .task-bytes .ensures) (omega arith) (omega arith)
 
 wrong-frame-requires-2 : tie.Need-wrong-frame-requires-2 Inv-loop μ-loop
 wrong-frame-requires-2 c κs = search needs
