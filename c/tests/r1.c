@@ -1,17 +1,24 @@
 /* R1 of the bench examples in the document's numbers, as a C host judges it: the third task's vertex misses, after one group, by the paths (0, 0) and
- * (0). And the empty text, lent as a null pointer: refusal 6, line 1. */
+ * (0). The same with its tasks as rings and a gear table of one vertex each, and such lines that are refused. And the empty text, lent as a null pointer:
+ * refusal 6, line 1. */
 #include "bench.h"
 #include "tectavirio.h"
 
 /* h x (1 + d), with two higher tasks and d = 6. */
 enum { WITNESS_CELLS = 2 * (1 + 6), WORK_CELLS = 8192, BUDGET = 100000 };
 
-static void judge_r1(void) {
+/* A vertex with a self-edge is a ring of one, and a gear table of one. */
+static const char VENDORS_R1[] = "0501\n06000200050005\n"
+                                 "0701\n06000200070007\n"
+                                 "0501\n06000200060007\n"
+                                 "00\n";
+
+static void judge_r1(const char *r1, size_t length) {
     static uint32_t work[WORK_CELLS];
     uint16_t witness[WITNESS_CELLS] = {0}, paths[] = {2, 0, 0, 1, 0};
     uint32_t groups, cells;
-    const uint8_t *text = (const uint8_t *)R1;
-    size_t length = sizeof R1 - 1;
+    const uint8_t *text = (const uint8_t *)r1;
+    expect("the check", tectavirio_text_check(text, length), 0);
     expect("the verdict", tectavirio_judge(text, length, 2, 0, BUDGET, work, WORK_CELLS, witness, WITNESS_CELLS, &groups, &cells), TECTAVIRIO_MISSES);
     expect("the groups", groups, 1);
     expect("the witness cells", cells, 5);
@@ -25,6 +32,20 @@ static void judge_r1(void) {
     expect("those that miss", tectavirio_judged_missing(judged), 1);
     expect("those unfinished", tectavirio_judged_unfinishing(judged), 0);
     expect("those refused", tectavirio_judged_refusing(judged), 0);
+}
+
+static void refuse(const char *text, size_t length, unsigned refusal, unsigned line) {
+    uint32_t checked = tectavirio_text_check((const uint8_t *)text, length);
+    expect("a line's refusal", tectavirio_checked_refusal(checked), refusal);
+    expect("the refused line", tectavirio_checked_line(checked), line);
+}
+
+/* A count of 13; d 8 with p 7; a vertex without its separation. */
+static void refuse_vendors_lines(void) {
+    static const char count[] = "010100\n0200010001\n070d\n00\n", late[] = "0501\n06000200080007\n00\n", plain[] = "0501\n0200020008\n00\n";
+    refuse(count, sizeof count - 1, TECTAVIRIO_OUT_OF_BOUNDS, 3);
+    refuse(late, sizeof late - 1, TECTAVIRIO_DEADLINE_OVER_SEPARATION, 2);
+    refuse(plain, sizeof plain - 1, TECTAVIRIO_WRONG_FRAME, 2);
 }
 
 static void judge_nothing(void) {
@@ -41,7 +62,9 @@ static void judge_nothing(void) {
 }
 
 int main(void) {
-    judge_r1();
+    judge_r1(R1, sizeof R1 - 1);
+    judge_r1(VENDORS_R1, sizeof VENDORS_R1 - 1);
+    refuse_vendors_lines();
     judge_nothing();
     return wrong;
 }

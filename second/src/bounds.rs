@@ -1,4 +1,4 @@
-//! Every number of document 01 and of wish 3, by a name in their words.
+//! Every number of document 01 and of wishes 3 and 5, by a name in their words.
 
 use std::ops::RangeInclusive;
 
@@ -6,7 +6,7 @@ use std::ops::RangeInclusive;
 pub const TASKS: usize = 8;
 /// The most higher tasks that a vertex can have.
 pub const HIGHER_TASKS: usize = TASKS - 1;
-/// How many vertices a task has.
+/// How many vertices a task has, a ring or a gear table too.
 pub const VERTICES: RangeInclusive<u8> = 1..=12;
 /// How many edges a task has.
 pub const EDGES: RangeInclusive<u8> = 0..=32;
@@ -31,6 +31,12 @@ pub const MASKED_TASK_FRAME: u8 = 0x04;
 pub const VERTEX_FRAME: u8 = 0x02;
 /// The first byte of an edge frame.
 pub const EDGE_FRAME: u8 = 0x03;
+/// The first byte of a ring's task frame.
+pub const RING_FRAME: u8 = 0x05;
+/// The first byte of a gear table's task frame.
+pub const GEAR_TABLE_FRAME: u8 = 0x07;
+/// The first byte of a vertex frame with the separation from it, of a ring or a gear table.
+pub const VENDOR_VERTEX_FRAME: u8 = 0x06;
 /// The only byte of an end frame.
 pub const END_FRAME: u8 = 0x00;
 

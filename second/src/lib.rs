@@ -1,4 +1,4 @@
-//! A second deadline judge, written from document 01 and wishes 1, 3 and 4 of document 02 alone.
+//! A second deadline judge, written from document 01 and wishes 1, 3, 4 and 5 of document 02 alone.
 //!
 //! It is compared with the proved program and shares nothing with it.
 
@@ -19,6 +19,7 @@ mod rules;
 pub mod sequence;
 pub mod table;
 pub mod text;
+mod vendor;
 mod walk;
 pub mod words;
 pub mod write;

@@ -53,10 +53,15 @@ pub(crate) fn edge(
 ) -> Kept {
     let start_d = d(edge.from).ok_or(Row::Number)?;
     d(edge.to).ok_or(Row::Number)?;
-    keeps(are_within(edge.p, &P), Row::Number)?;
-    keeps(start_d <= edge.p, Row::Deadline)?;
+    separation(edge.p, start_d)?;
     let is_after = |before: EdgeRecord| (before.from, before.to) < (edge.from, edge.to);
     keeps(before.is_none_or(is_after), Row::EdgeOrder)
+}
+
+/// The line that has an edge's p: its bounds, then d of the vertex that the edge starts from.
+pub(crate) fn separation(p: Ticks, start_d: Ticks) -> Kept {
+    keeps(are_within(p, &P), Row::Number)?;
+    keeps(start_d <= p, Row::Deadline)
 }
 
 /// Nothing if the rule is kept, else the row.

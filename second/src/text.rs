@@ -1,40 +1,44 @@
 //! Reading a text into a table, or into one of the refusals 1 to 7.
 
 use crate::bounds::{EDGE_FRAME, END_FRAME, MASKED_TASK_FRAME, TASK_FRAME, VERTEX_FRAME};
+use crate::bounds::{GEAR_TABLE_FRAME, RING_FRAME, VENDOR_VERTEX_FRAME};
 use crate::record::{EdgeRecord, VertexRecord};
 use crate::refusal::{Refusal, Row};
 use crate::rules::{self, Kept};
 use crate::table::{Edge, Table, Task, Ticks, Vertex, VertexNo};
+use crate::vendor::Vendor;
 
 /// Reads a text: its table, or the refusal of its first faulty line.
 pub fn read(text: &[u8]) -> Result<Table, Refusal> {
     let mut lines = Lines::of(text);
     let mut tasks = Vec::new();
-    loop {
-        match *lines.next_frame()? {
-            [TASK_FRAME, vertices, edges] => {
-                lines.keep(rules::another_task(tasks.len()))?;
-                tasks.push(read_task(&mut lines, vertices, edges, Ticks(0))?);
-            }
-            [MASKED_TASK_FRAME, vertices, edges, m_high, m_low] => {
-                lines.keep(rules::another_task(tasks.len()))?;
-                let m = ticks(m_high, m_low);
-                lines.keep(rules::masked_length(m))?;
-                tasks.push(read_task(&mut lines, vertices, edges, m)?);
-            }
-            [END_FRAME] => {
-                lines.keep(rules::end(tasks.len()))?;
-                break;
-            }
-            _ => return Err(lines.refuse(Row::Frame)),
-        }
+    while lines.next_frame()? != [END_FRAME] {
+        // Row 2 refuses a ninth task, whatever else its line is.
+        lines.keep(rules::another_task(tasks.len()))?;
+        tasks.push(read_task(&mut lines)?);
     }
+    lines.keep(rules::end(tasks.len()))?;
     lines.nothing_more()?;
     Ok(Table { tasks })
 }
 
-/// Reads on after a task frame's bytes: the task's vertices, which decide whether m is too large, then its edges.
-fn read_task(lines: &mut Lines, vertices: u8, edges: u8, m: Ticks) -> Result<Task, Refusal> {
+/// Reads a task from the line just read on, by the kind of its frame.
+fn read_task(lines: &mut Lines) -> Result<Task, Refusal> {
+    match lines.frame[..] {
+        [TASK_FRAME, vertices, edges] => read_plain_task(lines, vertices, edges, Ticks(0)),
+        [MASKED_TASK_FRAME, vertices, edges, m_high, m_low] => {
+            let m = ticks(m_high, m_low);
+            lines.keep(rules::masked_length(m))?;
+            read_plain_task(lines, vertices, edges, m)
+        }
+        [RING_FRAME, count] => read_vendor_task(lines, count, Vendor::Ring),
+        [GEAR_TABLE_FRAME, count] => read_vendor_task(lines, count, Vendor::GearTable),
+        _ => Err(lines.refuse(Row::Frame)),
+    }
+}
+
+/// Reads on after a plain task's counts and m: its vertices, which decide whether m is too large, then its edges.
+fn read_plain_task(lines: &mut Lines, vertices: u8, edges: u8, m: Ticks) -> Result<Task, Refusal> {
     lines.keep(rules::counts(usize::from(vertices), usize::from(edges)))?;
     let mut task = Task {
         m,
@@ -82,6 +86,36 @@ fn read_edge(
     let EdgeRecord { to, p, .. } = edge;
     task.vertices[usize::from(from)].edges.push(Edge { to, p });
     Ok(edge)
+}
+
+/// Reads on after a ring's or a gear table's task frame: the plain task that it stands for.
+fn read_vendor_task(lines: &mut Lines, count: u8, vendor: Vendor) -> Result<Task, Refusal> {
+    // Each vertex has one edge.
+    let [vertices, edges] = [usize::from(count); 2];
+    lines.keep(rules::counts(vertices, edges))?;
+    let mut task = Task {
+        m: Ticks(0),
+        vertices: Vec::with_capacity(vertices),
+    };
+    for number in 0..u16::from(count) {
+        let to = vendor.leads_to(VertexNo(number), u16::from(count));
+        task.vertices.push(read_vendor_vertex(lines, to)?);
+    }
+    Ok(task)
+}
+
+/// Reads a vertex frame with a separation: a vertex whose only edge leads to this one.
+fn read_vendor_vertex(lines: &mut Lines, to: VertexNo) -> Result<Vertex, Refusal> {
+    let &[VENDOR_VERTEX_FRAME, e_high, e_low, d_high, d_low, p_high, p_low] = lines.next_frame()?
+    else {
+        return Err(lines.refuse(Row::Frame));
+    };
+    let [e, d] = [ticks(e_high, e_low), ticks(d_high, d_low)];
+    let p = ticks(p_high, p_low);
+    lines.keep(rules::vertex(VertexRecord { e, d }))?;
+    lines.keep(rules::separation(p, d))?;
+    let edges = vec![Edge { to, p }];
+    Ok(Vertex { e, d, edges })
 }
 
 /// The ticks of two bytes.

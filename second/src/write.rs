@@ -1,4 +1,6 @@
 //! Writing a table as a text (wish 4), or one of the refusals 2 to 5 and 10.
+//!
+//! A table doesn't say which of its tasks were read from a ring or a gear table (wish 5), so that none is written as one.
 
 use crate::bounds::{EDGE_FRAME, END_FRAME, MASKED_TASK_FRAME, TASK_FRAME, VERTEX_FRAME};
 use crate::desk::write_bytes;

@@ -1,19 +1,9 @@
 //! The random tables that the generators write: at least half of them have a masked length.
 
+use crate::common::generators::{texts_for_words, written_by};
 use crate::common::{answered_lines, cases_of, texts_of};
 use second::case::{CHECK, DESK};
 use second::text;
-use std::fs;
-use std::path::Path;
-use std::process::Command;
-
-/// What a generator writes with these arguments.
-fn written(generator: &str, arguments: &[&str]) -> Vec<u8> {
-    let mut generator = Command::new(generator);
-    let written = generator.args(arguments).output().unwrap();
-    assert!(written.status.success());
-    written.stdout
-}
 
 /// Can the text be read, and has it a task with a masked length from this one on?
 fn is_masked_from(task: usize, bytes: &[u8]) -> bool {
@@ -23,7 +13,7 @@ fn is_masked_from(task: usize, bytes: &[u8]) -> bool {
 
 #[test]
 fn texts_for_the_desk() {
-    let sequence = written(env!("CARGO_BIN_EXE_texts_for_desk"), &["1", "1000"]);
+    let sequence = written_by(env!("CARGO_BIN_EXE_texts_for_desk"), &["1", "1000"]);
     let texts = texts_of(DESK, &sequence);
     assert_eq!(texts.len(), 1_000);
     let is_masked_task = |line: &[u8]| line.len() == 10 && line.starts_with(b"04");
@@ -36,7 +26,7 @@ fn texts_for_the_desk() {
 
 #[test]
 fn texts_for_the_reader() {
-    let sequence = written(env!("CARGO_BIN_EXE_texts_for_reader"), &[]);
+    let sequence = written_by(env!("CARGO_BIN_EXE_texts_for_reader"), &[]);
     let texts = texts_of(CHECK, &sequence);
     // The last 60 tables, each whole and damaged.
     let whole = texts[texts.len() - 120..].iter().step_by(2);
@@ -59,7 +49,7 @@ fn cases_for_the_judge_and_the_worst_finish() {
         (env!("CARGO_BIN_EXE_cases_for_latest"), 52),
     ] {
         let mut cases = Vec::new();
-        for case in cases_of(&written(generator, &[])) {
+        for case in cases_of(&written_by(generator, &[])) {
             if !cases.iter().any(|(_, text)| *text == case.text) {
                 cases.push((case.task, case.text));
             }
@@ -75,14 +65,7 @@ fn cases_for_the_judge_and_the_worst_finish() {
 
 #[test]
 fn texts_for_the_words() {
-    let folder = concat!(env!("CARGO_TARGET_TMPDIR"), "/masked_texts");
-    let _ = fs::remove_dir_all(folder);
-    fs::create_dir(folder).unwrap();
-    written(env!("CARGO_BIN_EXE_texts_for_words"), &[folder]);
-    let count = fs::read_dir(folder).unwrap().count();
-    let texts = (count - 20..count).map(|number| {
-        let file = Path::new(folder).join(format!("{number:03}"));
-        fs::read(file).unwrap()
-    });
-    assert!(texts.filter(|text| is_masked_from(0, text)).count() >= 10);
+    let texts = texts_for_words("masked_texts");
+    let random = texts[texts.len() - 20..].iter();
+    assert!(random.filter(|text| is_masked_from(0, text)).count() >= 10);
 }

@@ -199,3 +199,54 @@ This may NOT go out: a job type misses its deadline.
 ";
     assert!(words.ends_with(last), "{words}");
 }
+
+#[test]
+fn vendor_ring() {
+    let table = include_str!("../../tables/vendor_ring.table");
+    let words = table_words(table);
+    // From the answer on, round the ring's end: 7 + 3 + 1 + 1 + 2 + 4 + 3 + 3 + 1.
+    let miss = "
+task 4, vertex 0: MISSES its deadline of 24 ticks (9 groups examined), shown by these releases:
+    task 0: vertex 0 at tick 0, vertex 0 at tick 8, vertex 0 at tick 16
+    task 1: vertex 3 at tick 0, vertex 0 at tick 4, vertex 1 at tick 8, vertex 2 at tick 16
+    task 2: vertex 1 at tick 0, vertex 1 at tick 16
+    task 3: vertex 0 at tick 0
+    25 ticks of work are due by the deadline, 7 of them its own: 1 tick too many
+";
+    assert!(words.contains(miss), "{words}");
+    // The radio: 1 more each, for a transfer. The mirror, with decoding first: 4 + 2 + 4, 3 + 1 + 4 and 2 + 1 + 4. The beeper: 1 + 2 + 4 + 4,
+    // the mirror turning slowly. The count: 8 + 4 + 8 + 8 + 1, the mirror turning fast.
+    let finishes = [1, 2, 3, 5, 2, 10, 8, 7, 11, 11, 29];
+    assert_eq!(worst_finishes(&words), finishes);
+    assert!(words.contains("\nmeets 11, misses 1, unfinished 0, refused 0\n"));
+    // With 6 ticks to show a scan, and with the mirror turning slowly only.
+    let yes = "\nThis may go out: every job type meets its deadline.\n";
+    let shorter = table_words(&table.replace("0200070018", "0200060018"));
+    assert!(shorter.ends_with(yes) && worst_finishes(&shorter)[10] == 24);
+    let gears = "0703\n06000400200020\n06000300100010\n06000200080008\n";
+    let slowly = table_words(&table.replace(gears, "0701\n06000400200020\n"));
+    assert!(slowly.ends_with(yes) && worst_finishes(&slowly)[8] == 23);
+}
+
+#[test]
+fn vendor_ring_as_plain_tasks() {
+    let table = include_str!("../../tables/vendor_ring.table");
+    let ring = "0504\n06000100040004\n06000200080008\n06000400100010\n06000100040004\n";
+    let gears = "0703\n06000400200020\n06000300100010\n06000200080008\n";
+    assert!(table.contains(&format!("{ring}{gears}")));
+    let radio = common::task(
+        &[(1, 4), (2, 8), (4, 16), (1, 4)],
+        &[(0, 1, 4), (1, 2, 8), (2, 3, 16), (3, 0, 4)],
+    );
+    let mirror = common::task(
+        &[(4, 32), (3, 16), (2, 8)],
+        &[(0, 0, 32), (1, 1, 16), (2, 2, 8)],
+    );
+    let plain = table.replace(ring, &common::open_text(&[radio]));
+    let plain = plain.replace(gears, &common::open_text(&[mirror]));
+    assert_eq!(table_words(&plain), table_words(table));
+    assert_eq!(
+        common::writing::written_back(table.as_bytes()),
+        plain.as_bytes()
+    );
+}

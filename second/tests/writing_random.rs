@@ -2,11 +2,12 @@
 
 use crate::common::random::{damage, table, Random, Size};
 use crate::common::sheet::tasks_or_refusal;
-use crate::common::writing::{byte_area, expected, record, said, Said};
+use crate::common::vendors::has_vendor_task;
+use crate::common::writing::{expected, record, said, written_back, Said};
 use crate::common::{text, Task};
 use second::record::Record;
 use second::text::read;
-use second::write::{text_of, write};
+use second::write::text_of;
 use std::fs;
 use std::path::Path;
 
@@ -38,15 +39,6 @@ const TINY: Size = Size {
     p: 3,
 };
 
-/// What a text gives when it is read and written again.
-fn written_back(bytes: &[u8]) -> Vec<u8> {
-    let table = read(bytes).unwrap();
-    let mut area = byte_area(bytes.len() + 7);
-    let written = write(&Record::from(&table), &mut area).unwrap();
-    assert_eq!(area[written..], byte_area(bytes.len() + 7)[written..]);
-    area[..written].to_vec()
-}
-
 #[test]
 fn the_example_tables_written_back() {
     let folder = Path::new(env!("CARGO_MANIFEST_DIR")).join("../tables");
@@ -55,8 +47,12 @@ fn the_example_tables_written_back() {
         let file = entry.unwrap().path();
         if file.extension().is_some_and(|kind| kind == "table") {
             let text = fs::read(&file).unwrap();
-            if read(&text).is_ok() {
-                assert_eq!(written_back(&text), text, "{}", file.display());
+            if let Ok(table) = read(&text) {
+                let back = written_back(&text);
+                // A ring or a gear table is written as the plain task that it stands for.
+                let name = file.display();
+                assert_eq!(back != text, has_vendor_task(&text), "{name}");
+                assert_eq!(read(&back), Ok(table), "{name}");
                 written += 1;
             }
         }

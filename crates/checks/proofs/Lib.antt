@@ -4,3 +4,4 @@ pub mod InOrder
 pub mod Parts
 pub mod Tasks
 pub mod Tables
+pub mod Forms

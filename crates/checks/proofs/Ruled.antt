@@ -1,6 +1,6 @@
 -- The first line that the checks find broken is the one that the definition finds: a table's frames, tested in turn by the reader's own rules.
 use mathlib.Core.Path.{_≡_, refl, sym, ap, _∙_}
-use Prim.Native.Nat.{ℕ, suc, _+_, _-_, _*_, _/_, _%_, _≤_, _<_}
+use Prim.Native.Nat.{ℕ, suc, _+_, _-_, _/_, _%_, _≤_, _<_}
 use native.Mathlib.Omega.{arith}
 use mathlib.Core.Bool.{Bool, true, false, _&&_, _||_}
 use mathlib.Core.Option.{some}
@@ -15,6 +15,7 @@ use Rattle.meaning.specs.Text.{Begun, begun, closed, Step, on, over, wrong, gat
 use Rattle.meaning.specs.Text.{Reading, readable, unreadable, framesFrom}
 use Rattle.meaning.specs.Writing.{frameOfTask, frameOfVertex, frameOfEdge, frameOfEnd, framesOfTask, ruled}
 use Rattle.meaning.proofs.Readable.{framesStep, step-frames}
+use Rattle.meaning.proofs.FramesBack.{two-word}
 use Rattle.kinds.specs.declared.Refusal.the-variants.{WrongFrame, OutOfBounds, DeadlineOverSeparation, EdgeNotAfter}
 use Rattle.kinds.specs.Numbers.{refusalNumber}
 use Rattle.rules.specs.Rules.{taskIn, vertexIn, edgeIn, edgeSpaced, edgeAfter, leastAfter}
@@ -39,9 +40,6 @@ unless (Broken at) r = unreadable (refusalNumber (at .refusal)) (at .place)
 unless-then : (a b : Check) (r : Reading) → unless (andThen a b) r ≡ unless a (unless b r)
 unless-then Kept b r = refl
 unless-then (Broken at) b r = refl
-
-two-word : (n : ℕ) → n / 256 * 256 + n % 256 ≡ n
-two-word n = omega arith
 
 -- ---- vertices
 
@@ -277,7 +275,7 @@ pub task-bounded : (n : ℕ) (k : Task) → taskCheck n k ≡ Kept → TaskBound
 unfolding taskCheck
 task-bounded n k e = own-bounds n k (then-kept (ownCheck n k) (partsCheck k n) e)
 
-task-run : (ts : List Task) (k₀ : Task) (n : ℕ) (k : Task) (fs : List (List ℕ))
+pub task-run : (ts : List Task) (k₀ : Task) (n : ℕ) (k : Task) (fs : List (List ℕ))
     → inTurn (before ts k₀) n (framesOfTask k ++ fs)
     ≡ unless (ninthCheck (length (closed (before ts k₀))) n) (unless (taskCheck n k) (inTurn (begun (closed (before ts k₀)) k 0 0) (n + linesOfTask k) fs))
 unfolding taskCheck
@@ -292,14 +290,14 @@ task-run ts k₀ n k fs =
 
 -- ---- all tasks, and the end
 
-closed-more : (ts : List Task) (k : Task) → 1 ≤ length (k .vertices) → closed (begun ts k 0 0) ≡ ts ++ (k ∷ [])
+pub closed-more : (ts : List Task) (k : Task) → 1 ≤ length (k .vertices) → closed (begun ts k 0 0) ≡ ts ++ (k ∷ [])
 closed-more ts k h = go (k .vertices) refl
   where
     go : (vs : List Vertex) → k .vertices ≡ vs → closed (begun ts k 0 0) ≡ ts ++ (k ∷ [])
     go [] e = absurd (omega (arith, ap length e))
     go (x ∷ xs) e = rw e
 
-end-turn : (ts : List Task) (k₀ : Task) (n : ℕ)
+pub end-turn : (ts : List Task) (k₀ : Task) (n : ℕ)
     → inTurn (before ts k₀) n (frameOfEnd ∷ []) ≡ unless (endCheck (length (closed (before ts k₀))) n) (readable (closed (before ts k₀)))
 end-turn ts k₀ n = step-frames some (before ts k₀) n frameOfEnd [] ∙ go (closed (before ts k₀))
   where

@@ -13,10 +13,11 @@ use borrow.Author.Tests.{le-leb, lt-leb, lt-ltb, ne-eqb}
 use Rattle.meaning.specs.Lists.{pick, gather, Rising}
 use Rattle.meaning.specs.Bounds.{mostTasks, mostVertices, mostEdges, largestE, largestD, largestP, largestM}
 use Rattle.meaning.specs.Table.{Vertex, Edge, Task, Table, noVertex, noTask, taskAt, largestEIn}
-use Rattle.meaning.specs.Text.{within, nothing, readable, unreadable}
+use Rattle.meaning.specs.Text.{nothing, readable, unreadable}
 use Rattle.meaning.specs.Texts.{lastLine}
 use Rattle.meaning.specs.Sound.{SoundVertex, SoundEdge, EdgeBefore, SoundTask, AllSound, SoundTable}
 use Rattle.meaning.specs.Writing.{frameOfVertex, frameOfEdge, framesOfTask, framesOf, ruled}
+use Rattle.meaning.proofs.FramesKeep.{within-true}
 use Rattle.meaning.proofs.Readable.{InText, Good, frames-good}
 use Rattle.meaning.proofs.FaultyLine.{frame-line}
 use Rattle.kinds.specs.declared.Refusal.{Refusal}
@@ -32,9 +33,6 @@ use Rattle.checks.specs.Checks.{ninthCheck, tableCheck}
 use Rattle.checks.proofs.Ruled.{unless, ruled-is}
 
 -- ---- sound, so no rule is broken
-
-within-true : (low high n : ℕ) → low ≤ n → n ≤ high → within low high n ≡ true
-within-true low high n a b = rw (le-leb low n a, le-leb n high b)
 
 vertices-kept : (n : ℕ) (xs : List Vertex) → ((x : Vertex) → List·Memᴰ x xs → SoundVertex x) → verticesCheck n xs ≡ Kept
 unfolding vertexCheck vertexIn
@@ -77,7 +75,7 @@ own-kept n k s =
       within-true 0 largestM (k .m) (omega arith) (s .mostM),
     )
 
-task-kept : (n : ℕ) (k : Task) → SoundTask k → taskCheck n k ≡ Kept
+pub task-kept : (n : ℕ) (k : Task) → SoundTask k → taskCheck n k ≡ Kept
 unfolding taskCheck maskCheck
 task-kept n k s =
     rw (own-kept n k s, vertices-kept (n + 1) (k .vertices) (s .eachVertex), le-leb (k .m) (largestEIn (k .vertices)) (s .covered))
@@ -98,7 +96,7 @@ sound-ruled ts s = ruled-is ts ∙ rw (sound-kept ts s)
 
 -- ---- the first task that breaks a rule, behind those that keep them
 
-task-frames : (k : Task) → length (framesOfTask k) ≡ linesOfTask k
+pub task-frames : (k : Task) → length (framesOfTask k) ≡ linesOfTask k
 task-frames k =
     let parts = length-append (map frameOfVertex (k .vertices)) (map frameOfEdge (k .edges)) in
     omega (arith, parts, length-map (k .vertices) frameOfVertex, length-map (k .edges) frameOfEdge)

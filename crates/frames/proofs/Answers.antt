@@ -13,12 +13,16 @@ use Rattle.table.specs.Record.{noVertex}
 use Rattle.table.specs.Inner.{ticks, vertexCells, edgeCells}
 use Rattle.frames.specs.declared.VertexLine.the-variants.{VertexTaken, VertexRefused}
 use Rattle.frames.specs.declared.EdgeLine.the-variants.{EdgeTaken, EdgeRefused}
+use Rattle.frames.specs.declared.LinkLine.the-variants.{LinkTaken, LinkRefused}
+use Rattle.frames.specs.declared.Form.{Form}
+use Rattle.frames.specs.declared.Form.the-variants.{Plain, Ring, Gears}
 use Rattle.frames.specs.declared.TaskOrEndLine.{TaskOrEndLine}
 use Rattle.frames.specs.declared.TaskOrEndLine.the-variants.{TaskTaken, EndTaken, FrameRefused}
 use Rattle.digits.specs.Digits.{frameAt, digitCount}
 use Rattle.frames.specs.Frames.{taskDigits, partDigits, endDigits, faultOf, startsWith, vertexE, vertexD, vertexLine, edgeFrom, edgeTo, edgeP, edgeLine}
+use Rattle.frames.specs.Frames.{linkedDigits, linkDigits, linkP, linkLine, headWith, linkedLine}
 use Rattle.frames.specs.Frames.{taskVertices, taskEdges, taskMask, endLine, taskLine, taskOrEndLine}
-use Rattle.rules.specs.Rules.{taskIn, vertexIn, edgeIn, edgeSpaced, edgeAfter}
+use Rattle.rules.specs.Rules.{taskIn, vertexIn, edgeIn, linkIn, edgeSpaced, edgeAfter}
 
 -- a call gave b for the test x, and the code went on, or left, at `!b`
 pub held : {b x : Bool} → b ≡ x → not b ≡ false → x ≡ true
@@ -105,6 +109,32 @@ module _ (n : ℕ) (vs : List Vertex) (least : ℕ) where
       unfolding edgeLine
       edge-taken l m = rw (s .starts, ← s .from-there, ← s .to-there, ← s .p-there, h, l, m)
 
+-- ---- the line of a vertex of a ring or a gear table
+
+pub record LinkSeen (t : List ℕ) (e d p : ℕ) : Type 0 where
+  pub starts : startsWith t 54 linkDigits ≡ true
+  pub e-there : e ≡ vertexE t
+  pub d-there : d ≡ vertexD t
+  pub p-there : p ≡ linkP t
+
+pub link-kind : (t : List ℕ) {w : Refusal} → startsWith t 54 linkDigits ≡ false → w ≡ faultOf t linkDigits WrongFrame → LinkRefused w ≡ linkLine t
+unfolding linkLine
+link-kind t h x = rw (h, x)
+
+module _ {t : List ℕ} {e d p : ℕ} (s : LinkSeen t e d p) where
+  pub link-outside : {w : Refusal} → linkIn e d p ≡ false → w ≡ faultOf t linkDigits OutOfBounds → LinkRefused w ≡ linkLine t
+  unfolding linkLine
+  link-outside h x = rw (s .starts, ← s .e-there, ← s .d-there, ← s .p-there, h, x)
+
+  module _ (h : linkIn e d p ≡ true) where
+    pub link-late : edgeSpaced d p ≡ false → LinkRefused DeadlineOverSeparation ≡ linkLine t
+    unfolding linkLine
+    link-late l = rw (s .starts, ← s .e-there, ← s .d-there, ← s .p-there, h, l)
+
+    pub link-taken : edgeSpaced d p ≡ true → LinkTaken (vertexCells e d) (ticks p) ≡ linkLine t
+    unfolding linkLine
+    link-taken l = rw (s .starts, ← s .e-there, ← s .d-there, ← s .p-there, h, l)
+
 -- ---- a task's line, and the end's
 
 -- a task's line, where one is allowed, with the numbers that stand there
@@ -135,10 +165,34 @@ module _ (k : ℕ) (t : List ℕ) where
   unfolding taskOrEndLine
   masked-task {x} {m} o h q e l = rw (o, h, ← q) (e ∙ ap (λ (n : ℕ). taskLine k partDigits n m t) l)
 
-  pub no-task : {x : TaskOrEndLine} → startsWith t 49 taskDigits ≡ false → startsWith t 52 partDigits ≡ false → x ≡ endLine k t
-      → x ≡ taskOrEndLine k t
-  unfolding taskOrEndLine
-  no-task o h e = rw (o, h, e)
+  module _ (o : startsWith t 49 taskDigits ≡ false) (q : startsWith t 52 partDigits ≡ false) where
+    pub ring : {x : TaskOrEndLine} → startsWith t 53 linkedDigits ≡ true → x ≡ linkedLine Ring k t → x ≡ taskOrEndLine k t
+    unfolding taskOrEndLine
+    ring h e = rw (o, q, h, e)
+
+    pub gears : {x : TaskOrEndLine} → startsWith t 53 linkedDigits ≡ false → startsWith t 55 linkedDigits ≡ true → x ≡ linkedLine Gears k t
+        → x ≡ taskOrEndLine k t
+    unfolding taskOrEndLine
+    gears r h e = rw (o, q, r, h, e)
+
+    pub no-task : {x : TaskOrEndLine} → startsWith t 53 linkedDigits ≡ false → startsWith t 55 linkedDigits ≡ false → x ≡ endLine k t
+        → x ≡ taskOrEndLine k t
+    unfolding taskOrEndLine
+    no-task r h e = rw (o, q, r, h, e)
+
+  module _ (f : Form) where
+    pub linked-ninth : {w : Refusal} → mostTasks ≤ k → w ≡ faultOf t linkedDigits WrongFrame → FrameRefused w ≡ linkedLine f k t
+    unfolding linkedLine
+    linked-ninth l x = rw (le-leb _ _ l, x)
+
+    module _ (fits : k < mostTasks) {n : ℕ} (there : n ≡ taskVertices t) where
+      pub linked-outside : {w : Refusal} → taskIn n n 0 0 ≡ false → w ≡ faultOf t linkedDigits OutOfBounds → FrameRefused w ≡ linkedLine f k t
+      unfolding linkedLine
+      linked-outside h x = rw (lt-leb _ _ fits, ← there, h, x)
+
+      pub linked-taken : taskIn n n 0 0 ≡ true → TaskTaken (headWith f n n 0) ≡ linkedLine f k t
+      unfolding linkedLine
+      linked-taken h = rw (lt-leb _ _ fits, ← there, h)
 
   module _ (n least m : ℕ) where
     pub task-ninth : {w : Refusal} → mostTasks ≤ k → w ≡ faultOf t n WrongFrame → FrameRefused w ≡ taskLine k n least m t
@@ -150,6 +204,6 @@ module _ (k : ℕ) (t : List ℕ) where
       unfolding taskLine
       task-outside h x = rw (lt-leb _ _ (s .fits), ← s .v-there, ← s .e-there, h, x)
 
-      pub task-taken : taskIn v e least m ≡ true → TaskTaken v e (ticks m) ≡ taskLine k n least m t
+      pub task-taken : taskIn v e least m ≡ true → TaskTaken (headWith Plain v e m) ≡ taskLine k n least m t
       unfolding taskLine
       task-taken h = rw (lt-leb _ _ (s .fits), ← s .v-there, ← s .e-there, h)

@@ -9,7 +9,7 @@ use lib.Dec.{leb, ltb}
 use borrow.Author.Tests.{eq-eqb, lt-ltb}
 use Rattle.meaning.specs.Table as Meant
 use Rattle.meaning.specs.Table.{largestEIn}
-use Rattle.meaning.specs.Text.{linesOf, Line, Begun, begun, on, wrong, gate, isFrame, word, maskFits, vertexFrame, Reading, unreadable, readFrom}
+use Rattle.meaning.specs.Text.{linesOf, Begun, begun, on, wrong, gate, isFrame, word, vertexFrame, Reading, unreadable, readFrom}
 use Rattle.meaning.proofs.Readable.{readStep}
 use Rattle.kinds.specs.declared.Refusal.the-variants.{WrongFrame, OutOfBounds}
 use Rattle.kinds.specs.Numbers.{refusalNumber}

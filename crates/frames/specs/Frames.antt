@@ -6,7 +6,7 @@ use lib.ListN.{length, getD}
 use lib.Dec.{leb, eqb}
 use Rattle.meaning.specs.Lists.{pick}
 use Rattle.meaning.specs.Bounds.{mostTasks}
-use Rattle.meaning.specs.Text.{lineFeed}
+use Rattle.meaning.specs.Text.{lineFeed, ringTo, gearTo}
 use Rattle.kinds.specs.declared.Refusal.{Refusal}
 use Rattle.kinds.specs.declared.Refusal.the-variants.{BadLine, WrongFrame, OutOfBounds, DeadlineOverSeparation, EdgeNotAfter, NoEnd}
 use Rattle.table.specs.declared.Vertex.{Vertex}
@@ -16,9 +16,14 @@ use Rattle.frames.specs.declared.VertexLine.{VertexLine}
 use Rattle.frames.specs.declared.VertexLine.the-variants.{VertexTaken, VertexRefused}
 use Rattle.frames.specs.declared.EdgeLine.{EdgeLine}
 use Rattle.frames.specs.declared.EdgeLine.the-variants.{EdgeTaken, EdgeRefused}
+use Rattle.frames.specs.declared.LinkLine.{LinkLine}
+use Rattle.frames.specs.declared.LinkLine.the-variants.{LinkTaken, LinkRefused}
+use Rattle.frames.specs.declared.Form.{Form}
+use Rattle.frames.specs.declared.Form.the-variants.{Plain, Ring, Gears}
+use Rattle.frames.specs.declared.Head.{Head}
 use Rattle.frames.specs.declared.TaskOrEndLine.{TaskOrEndLine}
 use Rattle.frames.specs.declared.TaskOrEndLine.the-variants.{TaskTaken, EndTaken, FrameRefused}
-use Rattle.rules.specs.Rules.{taskIn, vertexIn, edgeIn, edgeSpaced, edgeAfter}
+use Rattle.rules.specs.Rules.{taskIn, vertexIn, edgeIn, linkIn, edgeSpaced, edgeAfter}
 use Rattle.digits.specs.Digits.{pairAt, wordAt, frameAt, digitCount}
 
 -- ---- the digits of each frame's line, and the bytes of the line
@@ -33,15 +38,42 @@ partDigits = 10
 abbrev pub partBytes : ℕ
 partBytes = partDigits + 1
 
--- of a task with the masked length m
+-- those of a ring and a gear table, and of their vertices
+abbrev pub linkedDigits : ℕ
+linkedDigits = 4
+
+abbrev pub linkedBytes : ℕ
+linkedBytes = linkedDigits + 1
+
+abbrev pub linkDigits : ℕ
+linkDigits = 14
+
+abbrev pub linkBytes : ℕ
+linkBytes = linkDigits + 1
+
+-- of a plain task with the masked length m
 unfoldable pub taskBytes : ℕ → ℕ
 taskBytes m = pick (eqb m 0) (taskDigits + 1) partBytes
+
+abbrev pub formBytes : Form → ℕ → ℕ
+formBytes Plain m = taskBytes m
+formBytes Ring m = linkedBytes
+formBytes Gears m = linkedBytes
+
+abbrev pub headBytes : Head → ℕ
+headBytes h = formBytes (h .form) (h .m .0)
 
 abbrev pub endDigits : ℕ
 endDigits = 2
 
 abbrev pub endBytes : ℕ
 endBytes = endDigits + 1
+
+-- where vertex i of n leads in a ring, and in a gear table; a plain task has its edges' lines
+abbrev pub formTo : Form → ℕ → ℕ → ℕ
+formTo Plain n i = i
+formTo Ring n i = ringTo n i
+formTo Gears n i = gearTo n i
 
 -- ---- what is asked of a line
 
@@ -99,6 +131,21 @@ edgeLine n vs least t =
     (EdgeRefused (faultOf t partDigits OutOfBounds)))
     (EdgeRefused (faultOf t partDigits WrongFrame))
 
+-- ---- the line of a vertex of a ring or a gear table
+
+abbrev pub linkP : List ℕ → ℕ
+linkP t = wordAt t 10
+
+unfoldable pub linkLine : List ℕ → LinkLine
+linkLine t =
+    pick (startsWith t 54 linkDigits)
+    (pick (linkIn (vertexE t) (vertexD t) (linkP t))
+    (pick (edgeSpaced (vertexD t) (linkP t))
+    (LinkTaken (vertexCells (vertexE t) (vertexD t)) (ticks (linkP t)))
+    (LinkRefused DeadlineOverSeparation))
+    (LinkRefused (faultOf t linkDigits OutOfBounds)))
+    (LinkRefused (faultOf t linkDigits WrongFrame))
+
 -- ---- the line after k whole tasks
 
 unfoldable pub endLine : ℕ → List ℕ → TaskOrEndLine
@@ -116,16 +163,28 @@ taskEdges t = pairAt t 4
 abbrev pub taskMask : List ℕ → ℕ
 taskMask t = wordAt t 6
 
--- a task's, of n digits, with the masked length m, from `least` on
+abbrev pub headWith : Form → ℕ → ℕ → ℕ → Head
+headWith o v e m = record { form = o; v = v; e = e; m = ticks m }
+
+-- a task's, of n digits, which says h if its numbers are within their bounds
+abbrev pub headLine : ℕ → ℕ → Bool → Head → List ℕ → TaskOrEndLine
+headLine k n inside h t =
+    pick (leb mostTasks k) (FrameRefused (faultOf t n WrongFrame)) (pick inside (TaskTaken h) (FrameRefused (faultOf t n OutOfBounds)))
+
+-- of a plain task, with the masked length m, from `least` on
 unfoldable pub taskLine : ℕ → ℕ → ℕ → ℕ → List ℕ → TaskOrEndLine
 taskLine k n least m t =
-    pick (leb mostTasks k) (FrameRefused (faultOf t n WrongFrame))
-    (pick (taskIn (taskVertices t) (taskEdges t) least m)
-    (TaskTaken (taskVertices t) (taskEdges t) (ticks m))
-    (FrameRefused (faultOf t n OutOfBounds)))
+    headLine k n (taskIn (taskVertices t) (taskEdges t) least m) (headWith Plain (taskVertices t) (taskEdges t) m) t
+
+-- of a ring or a gear table: as many edges as vertices
+unfoldable pub linkedLine : Form → ℕ → List ℕ → TaskOrEndLine
+linkedLine o k t =
+    headLine k linkedDigits (taskIn (taskVertices t) (taskVertices t) 0 0) (headWith o (taskVertices t) (taskVertices t) 0) t
 
 unfoldable pub taskOrEndLine : ℕ → List ℕ → TaskOrEndLine
 taskOrEndLine k t =
     pick (startsWith t 49 taskDigits) (taskLine k taskDigits 0 0 t)
     (pick (startsWith t 52 partDigits) (taskLine k partDigits 1 (taskMask t) t)
-    (endLine k t))
+    (pick (startsWith t 53 linkedDigits) (linkedLine Ring k t)
+    (pick (startsWith t 55 linkedDigits) (linkedLine Gears k t)
+    (endLine k t))))

@@ -13,6 +13,7 @@ use kinds::VertexNumber;
 use rules::edge_after;
 use rules::edge_in;
 use rules::edge_spaced;
+use rules::link_in;
 use rules::task_in;
 use rules::vertex_in;
 use table::Edge;
@@ -22,12 +23,18 @@ ghost use Prim.Native.Nat.{_<_, _≤_};
 ghost use lib.ListN.{length};
 ghost use Rattle.meaning.specs.Bounds.{mostVertices};
 ghost use Rattle.digits.specs.Digits.{Worths};
-ghost use Rattle.frames.specs.Frames.{faultOf, startsWith, vertexLine, edgeLine, endLine, taskLine, taskOrEndLine, taskBytes};
+ghost use Rattle.frames.specs.Frames.{faultOf, startsWith, vertexLine, edgeLine, linkLine, endLine, taskLine};
+ghost use Rattle.frames.specs.Frames.{linkedDigits, linkedLine, taskOrEndLine, taskBytes, headBytes};
 
 // The digits of each frame's line, and with the line feed its bytes; a vertex's, an edge's and that of a task with a masked length have the same.
 const TASK_DIGITS: usize = 6;
 
 const PART_DIGITS: usize = 10;
+
+// Of a ring or a gear table, and of its vertices.
+const LINKED_DIGITS: usize = 4;
+
+const LINK_DIGITS: usize = 14;
 
 const END_DIGITS: usize = 2;
 
@@ -35,7 +42,26 @@ const TASK_BYTES: usize = TASK_DIGITS + 1;
 
 pub const PART_BYTES: usize = PART_DIGITS + 1;
 
+const LINKED_BYTES: usize = LINKED_DIGITS + 1;
+
+pub const LINK_BYTES: usize = LINK_DIGITS + 1;
+
 pub const END_BYTES: usize = END_DIGITS + 1;
+
+// How a task is described.
+pub enum Form {
+    Plain,
+    Ring,
+    Gears,
+}
+
+// What a task's line says of the plain task that it stands for: how many vertices and edges, and the masked length.
+pub struct Head {
+    pub form: Form,
+    pub v: usize,
+    pub e: usize,
+    pub m: Ticks,
+}
 
 // What a line gives.
 pub enum VertexLine {
@@ -48,9 +74,15 @@ pub enum EdgeLine {
     EdgeRefused(Refusal),
 }
 
-// After whole tasks: another task's frame with its counts of vertices and edges and its masked length, or the end frame.
+// A vertex of a ring or a gear table, and the separation from it to the one that it leads to.
+pub enum LinkLine {
+    LinkTaken(Vertex, Ticks),
+    LinkRefused(Refusal),
+}
+
+// After whole tasks: another task's frame, or the end frame.
 pub enum TaskOrEndLine {
-    TaskTaken(usize, usize, Ticks),
+    TaskTaken(Head),
     EndTaken,
     FrameRefused(Refusal),
 }
@@ -144,6 +176,30 @@ pub fn edge_line(
     EdgeLine::EdgeTaken(edge)
 }
 
+// Of a ring or a gear table.
+pub fn link_line(w: &[u16; 256], text: &[u8]) -> LinkLine
+    requires { ⌜ Worths (now w) ⌝ }
+    ensures { λ r. ⌜ r ≡ linkLine (now (text .entry)) ⌝ }
+{
+    if !starts(text, b'6', LINK_DIGITS) {
+        return LinkLine::LinkRefused(fault(w, text, LINK_DIGITS, Refusal::WrongFrame));
+    }
+    let e = word_at(w, text, 2);
+    let d = word_at(w, text, 6);
+    let p = word_at(w, text, 10);
+    if !link_in(e, d, p) {
+        return LinkLine::LinkRefused(fault(w, text, LINK_DIGITS, Refusal::OutOfBounds));
+    }
+    if !edge_spaced(d, p) {
+        return LinkLine::LinkRefused(Refusal::DeadlineOverSeparation);
+    }
+    let vertex = Vertex {
+        e: Ticks(e as u16),
+        d: Ticks(d as u16),
+    };
+    LinkLine::LinkTaken(vertex, Ticks(p as u16))
+}
+
 // The end's line, after k whole tasks.
 pub(crate) fn end_line(w: &[u16; 256], text: &[u8], k: usize) -> TaskOrEndLine
     requires { ⌜ Worths (now w) ⌝ }
@@ -178,7 +234,32 @@ pub(crate) fn task_line(
     if !task_in(v, e, least, m) {
         return TaskOrEndLine::FrameRefused(fault(w, text, n, Refusal::OutOfBounds));
     }
-    TaskOrEndLine::TaskTaken(v as usize, e as usize, Ticks(m as u16))
+    TaskOrEndLine::TaskTaken(Head {
+        form: Form::Plain,
+        v: v as usize,
+        e: e as usize,
+        m: Ticks(m as u16),
+    })
+}
+
+// The line of a ring or a gear table, after k whole tasks: as many edges as vertices, "m = 0".
+pub(crate) fn linked_line(w: &[u16; 256], text: &[u8], k: usize, form: Form) -> TaskOrEndLine
+    requires { ⌜ (linkedDigits < length (now text)) × Worths (now w) ⌝ }
+    ensures { λ r. ⌜ r ≡ linkedLine form k (now (text .entry)) ⌝ }
+{
+    if MOST_TASKS <= k {
+        return TaskOrEndLine::FrameRefused(fault(w, text, LINKED_DIGITS, Refusal::WrongFrame));
+    }
+    let n = pair_at(w, text, 2);
+    if !task_in(n, n, 0, 0) {
+        return TaskOrEndLine::FrameRefused(fault(w, text, LINKED_DIGITS, Refusal::OutOfBounds));
+    }
+    TaskOrEndLine::TaskTaken(Head {
+        form,
+        v: n as usize,
+        e: n as usize,
+        m: Ticks(0),
+    })
 }
 
 // The line after k whole tasks: another task's, of which "Frame 01 means m = 0; 04 with 0 is refusal 3", or the end's.
@@ -193,10 +274,16 @@ pub fn task_or_end_line(w: &[u16; 256], text: &[u8], k: usize) -> TaskOrEndLine
         let m = word_at(w, text, 6);
         return task_line(w, text, k, PART_DIGITS, 1, m);
     }
+    if starts(text, b'5', LINKED_DIGITS) {
+        return linked_line(w, text, k, Form::Ring);
+    }
+    if starts(text, b'7', LINKED_DIGITS) {
+        return linked_line(w, text, k, Form::Gears);
+    }
     end_line(w, text, k)
 }
 
-// The bytes of the line of a task with the masked length m.
+// The bytes of the line of a plain task with the masked length m.
 pub fn task_bytes(m: Ticks) -> usize
     ensures { λ r. ⌜ r ≡ taskBytes (m .0) ⌝ }
 {
@@ -204,4 +291,16 @@ pub fn task_bytes(m: Ticks) -> usize
         return TASK_BYTES;
     }
     PART_BYTES
+}
+
+// The bytes of a task's line.
+pub fn head_bytes(head: Head) -> usize
+    ensures { λ r. ⌜ r ≡ headBytes head ⌝ }
+{
+    let form = head.form;
+    match form {
+        Form::Plain => task_bytes(head.m),
+        Form::Ring => LINKED_BYTES,
+        Form::Gears => LINKED_BYTES,
+    }
 }

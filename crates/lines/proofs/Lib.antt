@@ -1,6 +1,9 @@
 pub mod Padded
 pub mod Reach
+pub mod Gives
 pub mod Vertices
 pub mod Edges
+pub mod Links
 pub mod TaskRead
 pub mod Turns
+pub mod LinkTurns

@@ -23,7 +23,7 @@ use Rattle.lines.specs.declared.VertexLines.{VertexLines}
 use Rattle.lines.specs.declared.EdgeLines.{EdgeLines}
 use Rattle.frames.specs.Frames.{partBytes, vertexLine, edgeLine}
 use Rattle.rules.specs.Rules.{maskCovered, leastAfter}
-use Rattle.lines.specs.Parts.{tookVertices, tookEdges, tookTask, verticesOn, vertexLines, edgesOn, edgeLines, stoppedTask, covers, taskLines}
+use Rattle.lines.specs.Parts.{tookVertices, tookEdges, tookTask, verticesOn, vertexLines, edgesOn, edgeLines, stoppedTask, covers, plainLines}
 use Rattle.frames.proofs.VertexRead.{vertex-long}
 use Rattle.lines.proofs.Vertices.{vertices-reach}
 use Rattle.frames.proofs.EdgeRead.{edge-has}
@@ -142,14 +142,14 @@ pub record EdgesSeen (s : List ℕ) (from v e : ℕ) (m : Ticks) (a : VertexLine
   pub gives : b ≡ edgeLines v (a .vertices) e (drop (from + v * partBytes) s)
 
 module _ {s : List ℕ} {from v : ℕ} {a : VertexLines} (seen : VerticesSeen s from v a) where
-  pub task-vertex-stops : (e : ℕ) (m : Ticks) {w : Refusal} → a .outcome ≡ StoppedBy w → stoppedTask w (a .count) ≡ taskLines v e m (drop from s)
-  unfolding taskLines
+  pub task-vertex-stops : (e : ℕ) (m : Ticks) {w : Refusal} → a .outcome ≡ StoppedBy w → stoppedTask w (a .count) ≡ plainLines v e m (drop from s)
+  unfolding plainLines
   task-vertex-stops e m z = rw (← seen .gives, z)
 
   -- at the last vertex's line
   pub task-mask-stops : (e : ℕ) (m : Ticks) → a .outcome ≡ AllTaken → covers v m (a .vertices) ≡ false → {i : ℕ} → i ≡ v - 1
-      → stoppedTask OutOfBounds i ≡ taskLines v e m (drop from s)
-  unfolding taskLines
+      → stoppedTask OutOfBounds i ≡ plainLines v e m (drop from s)
+  unfolding plainLines
   task-mask-stops e m z c q = rw (q, ← seen .gives, z, c)
 
   pub vertices-fit : a .outcome ≡ AllTaken → from + v * partBytes ≤ length s
@@ -163,10 +163,10 @@ module _ {s : List ℕ} {from v e : ℕ} {m : Ticks} {a : VertexLines} {b : Edge
       let reach = edges-reach v (a .vertices) 0 (replicate mostEdges noEdge) 0 e (drop (from + v * partBytes) s) in
       subst (λ (y : EdgeLines). y .count ≤ e) (sym (seen .gives)) (omega (arith, reach .few))
 
-  pub task-edge-stops : {w : Refusal} → b .outcome ≡ StoppedBy w → stoppedTask w (v + b .count) ≡ taskLines v e m (drop from s)
-  unfolding taskLines
+  pub task-edge-stops : {w : Refusal} → b .outcome ≡ StoppedBy w → stoppedTask w (v + b .count) ≡ plainLines v e m (drop from s)
+  unfolding plainLines
   task-edge-stops y = rw (drop-drop (v * partBytes) from s, ← seen .vertices .gives, seen .all, seen .covered, ← seen .gives, y)
 
-  pub task-all : b .outcome ≡ AllTaken → tookTask AllTaken (v + e) (taskCells m v e (a .vertices) (b .edges)) ≡ taskLines v e m (drop from s)
-  unfolding taskLines
+  pub task-all : b .outcome ≡ AllTaken → tookTask AllTaken (v + e) ((v + e) * partBytes) (taskCells m v e (a .vertices) (b .edges)) ≡ plainLines v e m (drop from s)
+  unfolding plainLines
   task-all y = rw (drop-drop (v * partBytes) from s, ← seen .vertices .gives, seen .all, seen .covered, ← seen .gives, y)

@@ -1,27 +1,39 @@
 // "A task frame is followed by its vertices, numbered from 0, then its edges in strictly rising order of (from, to)." "m may not exceed its task's
 // largest e: refusal 3 at the last vertex's line, after that line's own checks."
 //
-// The lines of a task: those of its vertices, then those of its edges, each until the first that is refused.
+// "A ring is frame 05 with a count (1 to 12) and that many frames 06 e d p: a cycle in which each vertex leads to the next and the last to the first."
+// "A gear table is frame 07 with a count and frames 06: each vertex leads only to itself." "Both are read as the plain task they stand for, m = 0."
+//
+// The lines of a task: those of its vertices, then those of its edges, or those of a ring's or a gear table's vertices; each until the first that is
+// refused.
 use bounds::MOST_EDGES;
 use bounds::MOST_VERTICES;
 use frames::EdgeLine;
+use frames::Form;
+use frames::Head;
+use frames::LINK_BYTES;
+use frames::LinkLine;
 use frames::PART_BYTES;
 use frames::VertexLine;
 use frames::edge_line;
+use frames::link_line;
 use frames::vertex_line;
 use kinds::Refusal;
 use kinds::Ticks;
+use kinds::VertexNumber;
 use rules::least_after;
 use rules::mask_covered;
 use table::Edge;
 use table::Task;
 use table::Vertex;
 ghost use mathlib.Core.Path.{_≡_};
-ghost use Prim.Native.Nat.{_≤_};
+ghost use Prim.Native.Nat.{_≤_, _<_};
 ghost use lib.ListN.{length, drop};
 ghost use Rattle.meaning.specs.Bounds.{mostVertices, mostEdges};
 ghost use Rattle.digits.specs.Digits.{Worths};
-ghost use Rattle.lines.specs.Parts.{vertexLines, edgeLines, stoppedTask, taskLines};
+ghost use Rattle.table.specs.Inner.{edgeCells};
+ghost use Rattle.frames.specs.Frames.{formTo};
+ghost use Rattle.lines.specs.Parts.{vertexLines, edgeLines, stoppedTask, plainLines, linkLines, taskLines};
 
 // Whether all lines of a part were taken, or the refusal of the first that was not.
 pub enum Outcome {
@@ -42,10 +54,11 @@ pub struct EdgeLines {
     pub edges: [Edge; MOST_EDGES],
 }
 
-// The lines after a task's own: its vertices and its edges. No task where they stop.
+// The lines after a task's own, and their bytes. No task where they stop.
 pub struct TaskLines {
     pub outcome: Outcome,
     pub count: usize,
+    pub bytes: usize,
     pub task: Task,
 }
 
@@ -131,12 +144,13 @@ pub(crate) fn stopped(refusal: Refusal, count: usize) -> TaskLines
     TaskLines {
         outcome: Outcome::StoppedBy(refusal),
         count,
+        bytes: 0,
         task,
     }
 }
 
 // The lines of v vertices and e edges, in a task with the masked length m.
-pub fn read_task(
+pub(crate) fn read_plain(
     w: &[u16; 256],
     text: &[u8],
     from: usize,
@@ -145,7 +159,7 @@ pub fn read_task(
     m: Ticks,
 ) -> TaskLines
     requires { ⌜ (from ≤ length (now text)) × (1 ≤ v) × (v ≤ mostVertices) × (e ≤ mostEdges) × Worths (now w) ⌝ }
-    ensures { λ r. ⌜ r ≡ taskLines v e m (drop from (now (text .entry))) ⌝ }
+    ensures { λ r. ⌜ r ≡ plainLines v e m (drop from (now (text .entry))) ⌝ }
 {
     let a = read_vertices(w, text, from, v);
     let first = a.outcome;
@@ -167,6 +181,90 @@ pub fn read_task(
     TaskLines {
         outcome: Outcome::AllTaken,
         count: v + e,
+        bytes: (v + e) * PART_BYTES,
         task,
     }
+}
+
+// Where vertex i of n leads in a ring, and in a gear table.
+pub(crate) fn leads(form: Form, n: usize, i: usize) -> usize
+    requires { ⌜ i < n ⌝ }
+    ensures { λ r. ⌜ r ≡ formTo form n i ⌝ }
+{
+    let next = i + 1;
+    let Form::Ring = form else {
+        return i;
+    };
+    if next < n {
+        return next;
+    }
+    0
+}
+
+// The only edge of that vertex.
+pub(crate) fn link_edge(form: Form, n: usize, i: usize, p: Ticks) -> Edge
+    requires { ⌜ (i < n) × (n ≤ mostVertices) ⌝ }
+    ensures { λ r. ⌜ r ≡ edgeCells i (formTo form n i) (p .0) ⌝ }
+{
+    let to = leads(form, n, i);
+    let first = i as u8;
+    let second = to as u8;
+    Edge {
+        from: VertexNumber(first),
+        to: VertexNumber(second),
+        p,
+    }
+}
+
+// The lines of the n vertices of a ring or a gear table.
+pub(crate) fn read_links(
+    w: &[u16; 256],
+    text: &[u8],
+    from: usize,
+    form: Form,
+    n: usize,
+) -> TaskLines
+    requires { ⌜ (from ≤ length (now text)) × (n ≤ mostVertices) × Worths (now w) ⌝ }
+    ensures { λ r. ⌜ r ≡ linkLines (formTo form n) n (drop from (now (text .entry))) ⌝ }
+{
+    let no_vertex = table::no_vertex();
+    let no_edge = table::no_edge();
+    let mut vertices = [no_vertex; MOST_VERTICES];
+    let mut edges = [no_edge; MOST_EDGES];
+    let mut at = from;
+    let mut i = 0;
+    while i < n {
+        let next = link_line(w, &text[at..]);
+        match next {
+            LinkLine::LinkRefused(refusal) => {
+                return stopped(refusal, i);
+            }
+            LinkLine::LinkTaken(vertex, p) => {
+                let edge = link_edge(form, n, i, p);
+                vertices[i] = vertex;
+                edges[i] = edge;
+                i += 1;
+                at += LINK_BYTES;
+            }
+        }
+    }
+    let task = table::task_of(Ticks(0), n as u16, n as u16, vertices, edges);
+    TaskLines {
+        outcome: Outcome::AllTaken,
+        count: n,
+        bytes: n * LINK_BYTES,
+        task,
+    }
+}
+
+// The lines of a task whose own says `head`.
+pub fn read_task(w: &[u16; 256], text: &[u8], from: usize, head: Head) -> TaskLines
+    requires { ⌜ (from ≤ length (now text)) × (1 ≤ head .v) × (head .v ≤ mostVertices) × (head .e ≤ mostEdges) × Worths (now w) ⌝ }
+    ensures { λ r. ⌜ r ≡ taskLines head (drop from (now (text .entry))) ⌝ }
+{
+    let form = head.form;
+    if let Form::Plain = form {
+        return read_plain(w, text, from, head.v, head.e, head.m);
+    }
+    read_links(w, text, from, form, head.v)
 }

@@ -5,7 +5,7 @@ use native.Mathlib.Omega.{arith}
 use mathlib.Core.Bool.{Bool, true, false, _&&_}
 use mathlib.Core.Option.{Option, none, some}
 use mathlib.Core.Logic.{_⊎_, inl, inr}
-use mathlib.Core.List.{List, [], _∷_, _++_, map, List·Memᴰ, List·Memᴰ·head, List·Memᴰ·tail}
+use mathlib.Core.List.{List, [], _∷_, _++_, map, List·Memᴰ, List·Memᴰ·head, List·Memᴰ·tail, List·Memᴰ·cases-cons, List·Memᴰ·not-nil}
 use lib.ListN.{length}
 use lib.Dec.{leb, ltb, eqb}
 use borrow.Author.Tests.{ltb-true, ltb-false, leb-true, lt-ltb, le-ltb, le-leb, lt-leb, eqb-true, ne-eqb}
@@ -13,6 +13,8 @@ use Rattle.meaning.specs.Lists.{pick, gather}
 use Rattle.meaning.specs.Table.{Table}
 use Rattle.meaning.specs.Text.{Line, intoFirst, lineFeed, linesOf, digitOf, byteWith, hexBytes, frameOf, digit, digits, line}
 use Rattle.meaning.specs.Text.{Begun, nothing, Step, on, over, wrong, stepAt, readable, unreadable, atEnd, framesFrom, read}
+use Rattle.meaning.specs.Rings.{PlainFrame, Plain}
+use Rattle.meaning.proofs.Lists.{each-map}
 use Rattle.meaning.proofs.Readable.{framesStep, step-frames}
 
 -- ---- digits
@@ -157,6 +159,16 @@ frame-or-none : (f : List ℕ) → 1 ≤ length f → (frameOf (fedLine f) ≡ s
 frame-or-none [] h = absurd (omega arith)
 frame-or-none (b ∷ f) h = rw (lt-ltb 1 (length (gather digits (b ∷ f))) (omega arith)) (hex-or-none (b ∷ f))
 
+-- no line of frames without 05 to 07 has one
+pub plain-lines : (fs : List (List ℕ)) → ((f : List ℕ) → List·Memᴰ f fs → (1 ≤ length f) × PlainFrame (some f)) → Plain (gather line fs)
+plain-lines fs h l m =
+    each-map (λ (x : Line). PlainFrame (frameOf x)) fedLine fs (λ f i. go f (frame-or-none f (h f i .0)) (h f i .1)) l
+    (subst (List·Memᴰ l) (lines-of fs) m)
+  where
+    go : (f : List ℕ) → (frameOf (fedLine f) ≡ some f) ⊎ (frameOf (fedLine f) ≡ none) → PlainFrame (some f) → PlainFrame (frameOf (fedLine f))
+    go f (inl q) p = subst PlainFrame (sym q) p
+    go f (inr q) p = subst PlainFrame (sym q) tt
+
 -- what is refused of the frames' lines, but by 1, is refused of the frames
 lines-refused : (s : Begun) (n : ℕ) (fs : List (List ℕ)) → ((f : List ℕ) → List·Memᴰ f fs → 1 ≤ length f) → (k m : ℕ) → 2 ≤ k
     → framesFrom frameOf s n (map fedLine fs) ≡ unreadable k m → framesFrom some s n fs ≡ unreadable k m
@@ -300,9 +312,31 @@ frames-from s n (l ∷ ls) ts e = go (frameOf l) refl (λ z q. frames-from z (su
     go (some f) q ih e =
         more f (stepAt s (some f)) refl (frame-line l f q) ih (sym (ap (λ (o : Option (List ℕ)). framesStep frameOf (stepAt s o) n ls) q) ∙ e)
 
-pub readable-frames : (text : List ℕ) (ts : Table) → read text ≡ readable ts
-    → (fs : List (List ℕ)) × (text ≡ gather line fs) × AllFramed fs × (framesFrom some nothing 1 fs ≡ readable ts)
+-- each is the frame of a line
+fed-mem : (fs : List (List ℕ)) → AllFramed fs → (f : List ℕ) → List·Memᴰ f fs → (l : Line) × List·Memᴰ l (map fedLine fs) × (frameOf l ≡ some f)
+fed-mem [] h f m = absurd (List·Memᴰ·not-nil m)
+fed-mem (g ∷ fs) h f m = go (λ k. fed-mem fs (h .1) f k) (List·Memᴰ·cases-cons m)
+  where
+    go : (List·Memᴰ f fs → (l : Line) × List·Memᴰ l (map fedLine fs) × (frameOf l ≡ some f)) → (f ≡ g) ⊎ List·Memᴰ f fs
+        → (l : Line) × List·Memᴰ l (map fedLine (g ∷ fs)) × (frameOf l ≡ some f)
+    go ih (inl q) = (fedLine g, List·Memᴰ·head refl, frame-of g (h .0) ∙ ap some (sym q))
+    go ih (inr k) = let r = ih k in (r .0, List·Memᴰ·tail (r .1), r .2)
+
+pub record TextFrames (text : List ℕ) (ts : Table) : Type 0 where
+  pub frames : List (List ℕ)
+  pub spelt : text ≡ gather line frames
+  pub framed : AllFramed frames
+  pub reading : framesFrom some nothing 1 frames ≡ readable ts
+  pub lines : (f : List ℕ) → List·Memᴰ f frames → (l : Line) × List·Memᴰ l (linesOf text) × (frameOf l ≡ some f)
+
+pub readable-frames : (text : List ℕ) (ts : Table) → read text ≡ readable ts → TextFrames text ts
 unfolding read
 readable-frames text ts e =
     let i = frames-from nothing 1 (linesOf text) ts e in
-    (i .frames, sym (text-lines text) ∙ ap (gather lineText) (i .lines) ∙ fed-texts (i .frames), i .framed, i .reading)
+    record {
+      frames = i .frames;
+      spelt = sym (text-lines text) ∙ ap (gather lineText) (i .lines) ∙ fed-texts (i .frames);
+      framed = i .framed;
+      reading = i .reading;
+      lines = λ f m. let r = fed-mem (i .frames) (i .framed) f m in (r .0, subst (List·Memᴰ (r .0)) (sym (i .lines)) (r .1), r .2);
+    }

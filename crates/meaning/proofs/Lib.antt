@@ -25,13 +25,16 @@ pub mod Choices
 pub mod Refusals
 pub mod Verdicts
 pub mod SameJobs
+pub mod FramesKeep
 pub mod Readable
 pub mod TextSize
 pub mod LongestText
 pub mod FaultyLine
 pub mod FrameLines
+pub mod FormsBack
 pub mod FramesBack
 pub mod TextRead
+pub mod Rings
 pub mod Answers
 pub mod Latest
 pub mod Counts

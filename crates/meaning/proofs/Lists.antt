@@ -7,7 +7,7 @@ use native.Mathlib.Omega.{arith}
 use mathlib.Core.Bool.{Bool, true, false, _&&_}
 use mathlib.Core.Logic.{_⊎_, inl, inr}
 use mathlib.Core.List.{List, [], _∷_, _++_, map, append-assoc, List·Memᴰ, List·Memᴰ·head, List·Memᴰ·tail, Memᴰ·append-left, Memᴰ·append-right}
-use mathlib.Core.List.{List·Memᴰ·append-cases, List·Memᴰ·not-nil}
+use mathlib.Core.List.{List·Memᴰ·append-cases, List·Memᴰ·not-nil, Memᴰ·of-map}
 use lib.ListN.{length, getD, set, take, drop, length-append, length-map}
 use lib.Seq.{take-nil}
 use lib.Dec.{T}
@@ -139,6 +139,10 @@ module _ {X Y : Type 0} where
   pub map-mem : (f g : X → Y) (xs : List X) → ((x : X) → List·Memᴰ x xs → f x ≡ g x) → map f xs ≡ map g xs
   map-mem f g [] h = refl
   map-mem f g (x ∷ xs) h = ap₂ (λ (y : Y) (ys : List Y). y ∷ ys) (h x (List·Memᴰ·head refl)) (map-mem f g xs (λ z m. h z (List·Memᴰ·tail m)))
+
+  -- what holds of all that g gives holds in the mapped list
+  pub each-map : (Q : Y → Type 0) (g : X → Y) (xs : List X) → ((x : X) → List·Memᴰ x xs → Q (g x)) → (y : Y) → List·Memᴰ y (map g xs) → Q y
+  each-map Q g xs h y m = let r = Memᴰ·of-map g xs m in subst Q (r .2) (h (r .0) (r .1))
 
 -- what is gathered from a mapped list, and from what was gathered
 

@@ -1,5 +1,5 @@
--- A readable text has exactly the bytes of its table's lines, and so at most as many as the longest; behind that one stands the last line that a refusal
--- can name.
+-- A readable text has at most the bytes of its table's lines, exactly these if it is plain, and so at most as many as the longest; behind that one stands
+-- the last line that a refusal can name.
 use mathlib.Core.Path.{_≡_, refl, sym, ap, subst, _∙_}
 use Prim.Native.Nat.{ℕ, zero, suc, _+_, _-_, _*_, _/_, _%_, _≤_, min}
 use native.Mathlib.Nat.{add-assoc}
@@ -14,13 +14,17 @@ use Rattle.meaning.specs.Bounds.{mostTasks, mostVertices, mostEdges, lar
 use Rattle.meaning.specs.Table.{Vertex, Edge, Task, Table, vertex, edge, task, noVertex}
 use Rattle.meaning.specs.Text.{line, Line, lineFeed, intoFirst, linesOf, digitOf, byteWith, hexBytes, frameOf, isFrame, word}
 use Rattle.meaning.specs.Text.{Begun, begun, nothing, closed, Step, on, over, wrong, gate, within, taskFrame, maskFits, vertexFrame, afterLast, edgeFrame}
-use Rattle.meaning.specs.Text.{framed, stepAt, Reading, readable, unreadable, atEnd, readFrom, read}
+use Rattle.meaning.specs.Text.{linked, ringTo, gearTo, vendorFrame, linkFrame, wantedVertex, framed, stepAt, Reading, readable, unreadable, atEnd, readFrom, read}
 use Rattle.meaning.specs.Sound.{SoundTask, AllSound}
-use Rattle.meaning.specs.Texts.{taskLine, vertexLine, edgeLine, endLine, longestTask, longestText, taskLength, textLength, LongestText, lastLine}
+use Rattle.meaning.specs.Texts.{taskLine, vertexLine, edgeLine, longestTask, longestText, taskLength, textLength, LongestText, lastLine}
 use Rattle.meaning.specs.Texts.{TextRefused}
+use Rattle.meaning.specs.Rings.{Plain}
 use borrow.Author.Tests.{ne-eqb}
 use Rattle.meaning.proofs.Lists.{both-left, both-right, length-snoc, map-append, sum-append}
-use Rattle.meaning.proofs.Readable.{readStep, step-read, read-sound, read-refused, gate-step, pick-step}
+use Rattle.meaning.proofs.Readable.{readStep, step-read, read-sound, read-refused}
+use Rattle.meaning.proofs.FramesKeep.{gate-step, pick-step}
+use Rattle.meaning.proofs.TextSize.{text-size}
+use Rattle.meaning.proofs.FramesBack.{text-of-read}
 
 -- ---- the bytes of a line
 
@@ -94,26 +98,34 @@ line-most m = go (eqb m 0)
 line-04 : (m : ℕ) → 1 ≤ m → taskLine m ≡ lineLength 5
 line-04 m h = ap (λ (b : Bool). pick b (lineLength 3) (lineLength 5)) (ne-eqb m 0 (λ z. absurd (omega (arith, z))))
 
--- b bytes were read before: the whole tasks' lines, then the open task's; it has a line of its own as soon as it has or wants a vertex
+abbrev Led : Begun → Option (ℕ → ℕ) → Type 0
+Led s none = Unit {0}
+Led s (some to) = s .m ≡ 0
+
+-- at most so many bytes were read before: the whole tasks' lines, then the open task's; it has a line of its own as soon as it has or wants a vertex
 record BytesSoFar (b : ℕ) (s : Begun) : Type 0 where
-  bytes : b ≡ tasksLength (s .tasks) + min (taskLine (s .m)) (taskLine largestM * (length (s .vertices) + s .wantV))
+  bytes : b ≤ tasksLength (s .tasks) + min (taskLine (s .m)) (taskLine largestM * (length (s .vertices) + s .wantV))
       + vertexLine * length (s .vertices) + edgeLine * length (s .edges)
   -- no edge without a vertex
   edges : min 1 (length (s .edges)) ≤ length (s .vertices)
+  -- no masked length in a ring or a gear table
+  led : Led s (s .leads)
 
 -- what a step keeps, with b bytes read when its line is
 abbrev Kept : ℕ → Step → Type 0
 Kept b (on s) = BytesSoFar b s
-Kept b (over ts) = b ≡ textLength ts
+Kept b (over ts) = b ≤ textLength ts
 Kept b (wrong k) = Unit {0}
 
 tasks-snoc : (ts : List Task) (k : Task) → tasksLength (ts ++ (k ∷ [])) ≡ tasksLength ts + taskLength k
 tasks-snoc ts k = ap sum (map-append taskLength ts (k ∷ [])) ∙ sum-append (map taskLength ts) (taskLength k ∷ []) ∙ omega arith
 
-closed-bytes : (ts : List Task) (m : ℕ) (vs : List Vertex) (es : List Edge) (b v e : ℕ) → v ≡ 0 → BytesSoFar b (begun ts (task m vs es) v e)
-    → b ≡ tasksLength (closed (begun ts (task m vs es) v e))
-closed-bytes ts m [] es b v e w h = omega (arith, h .bytes, h .edges)
-closed-bytes ts m (x ∷ vs) es b v e w h = omega (arith, h .bytes, line-most m, tasks-snoc ts (task m (x ∷ vs) es))
+closed-bytes : (b : ℕ) (s : Begun) → s .wantV ≡ 0 → BytesSoFar b s → b ≤ tasksLength (closed s)
+closed-bytes b s w h = go (s .vertices) refl
+  where
+    go : (vs : List Vertex) → s .vertices ≡ vs → b ≤ tasksLength (closed s)
+    go [] q = rw q (omega (arith, h .bytes, h .edges, w, ap length q))
+    go (x ∷ vs) q = rw q (omega (arith, h .bytes, w, ap length q, line-most (s .m), tasks-snoc (s .tasks) (task (s .m) (x ∷ vs) (s .edges))))
 
 frame-bytes : (k n : ℕ) (f : List ℕ) → T (isFrame k n f) → length f ≡ n
 frame-bytes k n f t = eqb→eq (length f) n (both-right (eqb (getD f 0 0) k) (eqb (length f) n) t)
@@ -125,7 +137,7 @@ framed-as b k n f x i r s h =
     pick-step (Kept (b + lineLength (length f))) x r s (λ t. subst (λ (m : ℕ). Kept (b + lineLength m) r) (sym (frame-bytes k n f (i t))) h)
 
 -- by a frame of n bytes
-task-kept : (b n : ℕ) (s : Begun) (v e least m : ℕ) → (least ≤ m → taskLine m ≡ lineLength n) → b ≡ tasksLength (closed s)
+task-kept : (b n : ℕ) (s : Begun) (v e least m : ℕ) → (least ≤ m → taskLine m ≡ lineLength n) → b ≤ tasksLength (closed s)
     → Kept (b + lineLength n) (taskFrame s v e least m)
 task-kept b n s v e least m l h =
     let counts = within 1 mostVertices v && leb e mostEdges in
@@ -134,7 +146,7 @@ task-kept b n s v e least m l h =
     let r = both-left (within 1 mostVertices v) (leb e mostEdges) (both-left counts (within least largestM m) t) in
     let low = leb→le 1 v (both-left (leb 1 v) (leb v mostVertices) r) in
     let bytes = l (leb→le least m (both-left (leb least m) (leb m largestM) (both-right counts (within least largestM m) t))) in
-    record { bytes = omega (arith, h, low, bytes, line-most m); edges = omega arith })
+    record { bytes = omega (arith, h, low, bytes, line-most m); edges = omega arith; led = tt })
 
 vertex-kept : (b : ℕ) (s : Begun) (e d : ℕ) → BytesSoFar b s → 1 ≤ s .wantV → Kept (b + vertexLine) (vertexFrame s e d)
 vertex-kept b s e d h w =
@@ -144,7 +156,7 @@ vertex-kept b s e d h w =
     let end : Step = on (begun (s .tasks) (task (s .m) vs (s .edges)) (s .wantV - 1) (s .wantE)) in
     gate-step (Kept (b + vertexLine)) (within 1 largestE e && within 1 largestD d) 3 (gate (maskFits s vs) 3 end) tt
     (λ t. gate-step (Kept (b + vertexLine)) (maskFits s vs) 3 end tt
-    (λ u. record { bytes = omega (arith, h .bytes); edges = omega (arith, h .edges) }))
+    (λ u. record { bytes = omega (arith, h .bytes); edges = omega (arith, h .edges); led = tt }))
 
 edge-kept : (b : ℕ) (s : Begun) (f t p : ℕ) → BytesSoFar b s → s .wantV ≡ 0 → Kept (b + edgeLine) (edgeFrame s f t p)
 edge-kept b s f t p h w =
@@ -161,25 +173,55 @@ edge-kept b s f t p h w =
     (λ v. gate-step (Kept (b + edgeLine)) b5 5 end tt
     (λ r.
     let some = ltb→lt f (length vs) (both-left from to (both-left (from && to) (within 1 largestP p) u)) in
-    record { bytes = omega (arith, h .bytes); edges = omega arith })))
+    record { bytes = omega (arith, h .bytes); edges = omega arith; led = tt })))
+
+-- of a ring or a gear table
+linked-kept : (b : ℕ) (s : Begun) (to : ℕ → ℕ → ℕ) (v : ℕ) → b ≤ tasksLength (closed s) → Kept (b + lineLength 2) (vendorFrame s to v)
+linked-kept b s to v h =
+    gate-step (Kept (b + lineLength 2)) (within 1 mostVertices v) 3 (on (linked (closed s) (task 0 [] []) (to v) v)) tt
+    (λ t. record { bytes = omega (arith, h, leb→le 1 v (both-left (leb 1 v) (leb v mostVertices) t)); edges = omega arith; led = refl })
+
+link-kept : (b : ℕ) (s : Begun) (to : ℕ → ℕ) (e d p : ℕ) → BytesSoFar b s → 1 ≤ s .wantV → s .m ≡ 0 → Kept (b + lineLength 7) (linkFrame s to e d p)
+link-kept b s to e d p h w m =
+    let x : Vertex = vertex e d in
+    let y : Edge = edge (length (s .vertices)) (to (length (s .vertices))) p in
+    let more = length-snoc (s .vertices) x in
+    let more-edges = length-snoc (s .edges) y in
+    let end : Step = on (linked (s .tasks) (task (s .m) (s .vertices ++ (x ∷ [])) (s .edges ++ (y ∷ []))) to (s .wantV - 1)) in
+    gate-step (Kept (b + lineLength 7)) (within 1 largestE e && within 1 largestD d && within 1 largestP p) 3 (gate (leb d p) 4 end) tt
+    (λ t. gate-step (Kept (b + lineLength 7)) (leb d p) 4 end tt
+    (λ u. record { bytes = omega (arith, h .bytes, ap taskLine m); edges = omega arith; led = m }))
+
+vertex-framed-kept : (b : ℕ) (s : Begun) (l : Option (ℕ → ℕ)) (f : List ℕ) → BytesSoFar b s → 1 ≤ s .wantV → Led s l
+    → Kept (b + lineLength (length f)) (wantedVertex s l f)
+vertex-framed-kept b s none f h w led =
+    framed-as b 2 5 f (isFrame 2 5 f) (λ t. t) (vertexFrame s (word f 1) (word f 3)) (wrong 2) (vertex-kept b s (word f 1) (word f 3) h w) tt
+vertex-framed-kept b s (some to) f h w led =
+    framed-as b 6 7 f (isFrame 6 7 f) (λ t. t) (linkFrame s to (word f 1) (word f 3) (word f 5)) (wrong 2)
+    (link-kept b s to (word f 1) (word f 3) (word f 5) h w led) tt
 
 framed-kept : (b : ℕ) (s : Begun) (v e : ℕ) (f : List ℕ) → BytesSoFar b s → s .wantV ≡ v → Kept (b + lineLength (length f)) (framed s v e f)
-framed-kept b s (suc v) e f h w =
-    framed-as b 2 5 f (isFrame 2 5 f) (λ t. t) (vertexFrame s (word f 1) (word f 3)) (wrong 2) (vertex-kept b s (word f 1) (word f 3) h (omega arith)) tt
+framed-kept b s (suc v) e f h w = vertex-framed-kept b s (s .leads) f h (omega arith) (h .led)
 framed-kept b s zero (suc e) f h w =
     framed-as b 3 5 f (isFrame 3 5 f) (λ t. t) (edgeFrame s (getD f 1 0) (getD f 2 0) (word f 3)) (wrong 2)
     (edge-kept b s (getD f 1 0) (getD f 2 0) (word f 3) h w) tt
 framed-kept b s zero zero f h w =
-    let all = closed-bytes (s .tasks) (s .m) (s .vertices) (s .edges) b (s .wantV) (s .wantE) w h in
+    let all = closed-bytes b s w h in
     let few = ltb (length (closed s)) mostTasks in
     let some = ltb 0 (length (closed s)) in
     let end = pick (isFrame 0 1 f && some) (over (closed s)) (wrong 2) in
+    let gears = pick (isFrame 7 2 f && few) (vendorFrame s gearTo (getD f 1 0)) end in
+    let rings = pick (isFrame 5 2 f && few) (vendorFrame s ringTo (getD f 1 0)) gears in
     let masked = taskFrame s (getD f 1 0) (getD f 2 0) 1 (word f 3) in
     framed-as b 1 3 f (isFrame 1 3 f && few) (both-left (isFrame 1 3 f) few) (taskFrame s (getD f 1 0) (getD f 2 0) 0 0)
-    (pick (isFrame 4 5 f && few) masked end) (task-kept b 3 s (getD f 1 0) (getD f 2 0) 0 0 (λ m. refl) all)
-    (framed-as b 4 5 f (isFrame 4 5 f && few) (both-left (isFrame 4 5 f) few) masked end
+    (pick (isFrame 4 5 f && few) masked rings) (task-kept b 3 s (getD f 1 0) (getD f 2 0) 0 0 (λ m. refl) all)
+    (framed-as b 4 5 f (isFrame 4 5 f && few) (both-left (isFrame 4 5 f) few) masked rings
     (task-kept b 5 s (getD f 1 0) (getD f 2 0) 1 (word f 3) (line-04 (word f 3)) all)
-    (framed-as b 0 1 f (isFrame 0 1 f && some) (both-left (isFrame 0 1 f) some) (over (closed s)) (wrong 2) (ap (λ (n : ℕ). n + endLine) all) tt))
+    (framed-as b 5 2 f (isFrame 5 2 f && few) (both-left (isFrame 5 2 f) few) (vendorFrame s ringTo (getD f 1 0)) gears
+    (linked-kept b s ringTo (getD f 1 0) all)
+    (framed-as b 7 2 f (isFrame 7 2 f && few) (both-left (isFrame 7 2 f) few) (vendorFrame s gearTo (getD f 1 0)) end
+    (linked-kept b s gearTo (getD f 1 0) all)
+    (framed-as b 0 1 f (isFrame 0 1 f && some) (both-left (isFrame 0 1 f) some) (over (closed s)) (wrong 2) (omega (arith, all)) tt))))
 
 step-kept : (b m : ℕ) (s : Begun) (o : Option (List ℕ)) → Fits m o → BytesSoFar b s → Kept (b + m) (stepAt s o)
 step-kept b m s none q h = tt
@@ -190,10 +232,10 @@ step-kept b m s (some f) q h =
 
 -- b bytes in all
 abbrev Bytes : ℕ → Reading → Type 0
-Bytes b (readable ts) = b ≡ textLength ts
+Bytes b (readable ts) = b ≤ textLength ts
 Bytes b (unreadable k n) = Unit {0}
 
-end-bytes : (ts : Table) (b n : ℕ) (ls : List Line) → b ≡ textLength ts → Bytes (b + bytesIn ls) (atEnd ts n ls)
+end-bytes : (ts : Table) (b n : ℕ) (ls : List Line) → b ≤ textLength ts → Bytes (b + bytesIn ls) (atEnd ts n ls)
 end-bytes ts b n [] h = omega (arith, h)
 end-bytes ts b n (l ∷ ls) h = tt
 
@@ -214,10 +256,13 @@ read-bytes : (text : List ℕ) → Bytes (length text) (read text)
 unfolding read
 read-bytes text =
     subst (λ (m : ℕ). Bytes m (readFrom nothing 1 (linesOf text))) (omega (arith, lines-bytes text))
-    (from-bytes 0 nothing 1 (linesOf text) (record { bytes = refl; edges = omega arith }))
+    (from-bytes 0 nothing 1 (linesOf text) (record { bytes = omega arith; edges = omega arith; led = tt }))
 
-pub text-length : (text : List ℕ) (ts : Table) → read text ≡ readable ts → length text ≡ textLength ts
+pub text-length : (text : List ℕ) (ts : Table) → read text ≡ readable ts → length text ≤ textLength ts
 text-length text ts q = subst (Bytes (length text)) q (read-bytes text)
+
+plain-length : (text : List ℕ) (ts : Table) → Plain text → read text ≡ readable ts → length text ≡ textLength ts
+plain-length text ts p q = ap length (sym (text-of-read text ts p q)) ∙ text-size ts
 
 -- ---- no longer than the longest
 
@@ -253,7 +298,15 @@ unfolding read
 full-read = refl
 
 pub longest-text : LongestText
-longest-text = record { number = refl; exactly = text-length; none-longer = none-longer; reached = (fullText, fullTable, full-read, refl) }
+longest-text =
+    record {
+      number = refl;
+      of-table = text-size;
+      exactly = plain-length;
+      at-most = text-length;
+      none-longer = none-longer;
+      reached = (fullText, fullTable, full-read, refl);
+    }
 
 -- ---- one more byte behind it
 

@@ -1,5 +1,5 @@
--- The bench examples R1 to R8, tables of which the latest finish is asked, masked lengths, and tables that are written, as one table under one claim;
--- `proofs/Bench` proves it.
+-- The bench examples R1 to R8, tables of which the latest finish is asked, masked lengths, tables that are written, and rings and gear tables, as one table
+-- under one claim; `proofs/Bench` proves it.
 use Prim.Native.Nat.{ℕ, _-_, _*_}
 use Prim.Native.Char.{code}
 use Prim.Native.String.{String, [] as []ˢ, _∷_ as _∷ˢ_}
@@ -7,16 +7,16 @@ use mathlib.Core.Bool.{Bool, true, false, _&&_}
 use mathlib.Core.List.{List, [], _∷_, _++_}
 use lib.ListN.{replicate}
 use lib.Dec.{T, eqb}
-use Rattle.meaning.specs.Lists.{all}
+use Rattle.meaning.specs.Lists.{all, gather}
 use Rattle.meaning.specs.Bounds.{deskBudget, deskWork, deskWitness}
 use Rattle.meaning.specs.Table.{Task, Table, vertex, edge, task}
 use Rattle.meaning.specs.Paths.{completePaths}
 use Rattle.meaning.specs.Groups.{P}
 use Rattle.meaning.specs.Verdict.{Verdict, numbers, cellsOf, missPaths, lateNumbers, shownPaths, plain, latest, topAt, worstAt, latestPaths}
-use Rattle.meaning.specs.Text.{read, checked}
+use Rattle.meaning.specs.Text.{read, tasksOf, checked}
 use Rattle.meaning.specs.Judge.{judged}
 use Rattle.meaning.specs.Desk.{output}
-use Rattle.meaning.specs.Writing.{writing, writingNumbers, frontOf}
+use Rattle.meaning.specs.Writing.{textOf, writing, writingNumbers, frontOf}
 
 -- ---- what the definitions give, beside what the document says, or its rules by hand
 
@@ -125,6 +125,14 @@ lateWith b ts i =
 -- a table that is written into an area of so many bytes: the answer in numbers, then the bytes written
 abbrev pub writtenInto : ℕ → Table → List ℕ
 writtenInto room ts = let w = writing ts room in writingNumbers w ++ frontOf w
+
+-- a text so many times over
+abbrev pub times : ℕ → String → List ℕ
+times n text = gather bytes (replicate n text)
+
+-- the text of the table that a text means
+abbrev pub plainOf : String → List ℕ
+plainOf text = textOf (tasksOf (read (bytes text)))
 
 -- four tasks of two lines each
 abbrev pub fourTasks : Table
@@ -238,6 +246,54 @@ examples =
     ∷ (writtenInto 0 (task 0 (vertex 1 5 ∷ []) (edge 0 1 1 ∷ []) ∷ []) gives (3 ∷ 3 ∷ []))
     ∷ (writtenInto 0 (task 0 (vertex 1 5 ∷ []) (edge 0 0 5 ∷ edge 0 0 4 ∷ []) ∷ []) gives (4 ∷ 4 ∷ []))
     ∷ (writtenInto 0 (task 0 (vertex 1 5 ∷ []) (edge 0 0 5 ∷ edge 0 0 5 ∷ []) ∷ []) gives (5 ∷ 4 ∷ []))
+    -- a ring: 0 leads to 1, 1 to 2, 2 to 0, each with its own p; a gear table: each to itself; of one vertex both are the same
+    ∷ (plainOf "0503\n06000100050009\n0600020006000a\n0600030007000b\n00\n"
+    gives (bytes "010303\n0200010005\n0200020006\n0200030007\n0300010009\n030102000a\n030200000b\n00\n"))
+    ∷ (plainOf "0702\n06000100050009\n0600020006000a\n00\n" gives (bytes "010202\n0200010005\n0200020006\n0300000009\n030101000a\n00\n"))
+    ∷ (plainOf "0501\n06000100050009\n0701\n06000100050009\n00\n"
+    gives (bytes "010101\n0200010005\n0300000009\n010101\n0200010005\n0300000009\n00\n"))
+    -- m = 0, also behind a task with another
+    ∷ (plainOf "0401000005\n0200050009\n0501\n06000100010001\n00\n" gives (bytes "0401000005\n0200050009\n010101\n0200010001\n0300000001\n00\n"))
+    -- counts that a task may have, and may not
+    ∷ (checkOf "0500\n00\n" gives (3 ∷ 1 ∷ []))
+    ∷ (checkOf "050d\n00\n" gives (3 ∷ 1 ∷ []))
+    ∷ (checkOf "0700\n00\n" gives (3 ∷ 1 ∷ []))
+    ∷ (checkOf "070d\n00\n" gives (3 ∷ 1 ∷ []))
+    ∷ (checked (read (bytes "050c\n" ++ times 12 "06000100010001\n" ++ bytes "00\n")) gives (0 ∷ 0 ∷ []))
+    -- they count among the eight tasks: a ninth is 2, whatever its count
+    ∷ (checked (read (times 8 "0501\n06000100010001\n" ++ bytes "00\n")) gives (0 ∷ 0 ∷ []))
+    ∷ (checked (read (times 8 "0701\n06000100010001\n" ++ bytes "0500\n")) gives (2 ∷ 17 ∷ []))
+    -- at the 06's own line: e, d and p out of bounds
+    ∷ (checkOf "0701\n06000000090001\n00\n" gives (3 ∷ 2 ∷ []))
+    ∷ (checkOf "0501\n0603e900010001\n00\n" gives (3 ∷ 2 ∷ []))
+    ∷ (checkOf "0501\n06000100000001\n00\n" gives (3 ∷ 2 ∷ []))
+    ∷ (checkOf "0701\n06000100c900c8\n00\n" gives (3 ∷ 2 ∷ []))
+    ∷ (checkOf "0501\n06000100010000\n00\n" gives (3 ∷ 2 ∷ []))
+    ∷ (checkOf "0701\n060001000103e9\n00\n" gives (3 ∷ 2 ∷ []))
+    ∷ (checkOf "0501\n0603e800c803e8\n00\n" gives (0 ∷ 0 ∷ []))
+    -- then d above p: its own p, not the next one's
+    ∷ (checkOf "0502\n06000100050004\n06000100030009\n00\n" gives (4 ∷ 2 ∷ []))
+    ∷ (checkOf "0502\n06000100050005\n06000100030003\n00\n" gives (0 ∷ 0 ∷ []))
+    -- a 02, the end or another task inside; a 03 or one 06 more behind
+    ∷ (checkOf "0501\n0200010001\n00\n" gives (2 ∷ 2 ∷ []))
+    ∷ (checkOf "0702\n06000100010001\n00\n" gives (2 ∷ 3 ∷ []))
+    ∷ (checkOf "0502\n06000100010001\n0701\n00\n" gives (2 ∷ 3 ∷ []))
+    ∷ (checkOf "0501\n06000100010001\n0300000001\n00\n" gives (2 ∷ 3 ∷ []))
+    ∷ (checkOf "0701\n06000100010001\n06000100010001\n00\n" gives (2 ∷ 3 ∷ []))
+    -- a 06 where a task, a vertex or an edge must come; a 05 where a vertex must
+    ∷ (checkOf "06000100010001\n00\n" gives (2 ∷ 1 ∷ []))
+    ∷ (checkOf "010100\n06000100010001\n00\n" gives (2 ∷ 2 ∷ []))
+    ∷ (checkOf "010101\n0200010001\n06000100010001\n00\n" gives (2 ∷ 3 ∷ []))
+    ∷ (checkOf "010100\n0501\n00\n" gives (2 ∷ 2 ∷ []))
+    -- other lengths
+    ∷ (checkOf "050101\n06000100010001\n00\n" gives (2 ∷ 1 ∷ []))
+    ∷ (checkOf "070101\n06000100010001\n00\n" gives (2 ∷ 1 ∷ []))
+    ∷ (checkOf "05\n06000100010001\n00\n" gives (2 ∷ 1 ∷ []))
+    ∷ (checkOf "0501\n060001000101\n00\n" gives (2 ∷ 2 ∷ []))
+    ∷ (checkOf "0501\n0600010001000100\n00\n" gives (2 ∷ 2 ∷ []))
+    -- a text that ends inside, and bytes behind the end
+    ∷ (checkOf "0502\n06000100010001\n" gives (6 ∷ 3 ∷ []))
+    ∷ (checkOf "0701\n06000100010001\n00\n00\n" gives (7 ∷ 4 ∷ []))
     ∷ []
 
 -- the claim

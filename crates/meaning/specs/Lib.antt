@@ -11,6 +11,7 @@ pub mod Judge
 pub mod Whole
 pub mod Desk
 pub mod Writing
+pub mod Rings
 pub mod Sound
 pub mod Texts
 pub mod Demands

@@ -72,7 +72,8 @@ line f = gather digits f ++ (lineFeed ∷ [])
 
 -- ---- what a frame does to what was read before it
 
--- What was read before a line: whole tasks, then the task that is being read, and how many vertices and edges it still wants.
+-- What was read before a line: whole tasks, then the task that is being read, and how many vertices and edges it still wants. Of a ring or a gear table
+-- also where each of its vertices leads; its edges come with its vertices.
 pub record Begun : Type 0 where
   pub tasks : List Task
   pub m : ℕ
@@ -80,10 +81,15 @@ pub record Begun : Type 0 where
   pub edges : List Edge
   pub wantV : ℕ
   pub wantE : ℕ
+  pub leads : Option (ℕ → ℕ)
 
 -- the tasks ts, then as much of the task k, and its wants
 abbrev pub begun : List Task → Task → ℕ → ℕ → Begun
-begun ts k v e = record { tasks = ts; m = k .m; vertices = k .vertices; edges = k .edges; wantV = v; wantE = e }
+begun ts k v e = record { tasks = ts; m = k .m; vertices = k .vertices; edges = k .edges; wantV = v; wantE = e; leads = none }
+
+-- the same of a ring or a gear table that wants v vertices
+abbrev pub linked : List Task → Task → (ℕ → ℕ) → ℕ → Begun
+linked ts k to v = record { tasks = ts; m = k .m; vertices = k .vertices; edges = k .edges; wantV = v; wantE = 0; leads = some to }
 
 abbrev pub nothing : Begun
 nothing = begun [] noTask 0 0
@@ -136,15 +142,48 @@ edgeFrame s from to p =
     (gate (afterLast (s .edges) (edge from to p)) 5
     (on (begun (s .tasks) (task (s .m) (s .vertices) (s .edges ++ (edge from to p ∷ []))) 0 (s .wantE - 1)))))
 
--- a task frame is followed by its vertices, then its edges; then another task or the end: by how many vertices and edges are still wanted.
+-- ---- rings and gear tables: where vertex i of n leads
+
+-- "a cycle in which each vertex leads to the next and the last to the first"
+abbrev pub ringTo : ℕ → ℕ → ℕ
+ringTo n i = pick (ltb (suc i) n) (suc i) 0
+
+-- "each vertex leads only to itself"
+abbrev pub gearTo : ℕ → ℕ → ℕ
+gearTo n i = i
+
+-- "A ring is frame 05 with a count (1 to 12)", "A gear table is frame 07 with a count": a count of 1 byte. "Both are read as the plain task they stand for,
+-- m = 0", which `standsFor` of `Rings` says of the whole task.
+abbrev pub vendorFrame : Begun → (ℕ → ℕ → ℕ) → ℕ → Step
+vendorFrame s to n = gate (within 1 mostVertices n) 3 (on (linked (closed s) (task 0 [] []) (to n) n))
+
+-- "and that many frames 06 e d p", of 2 bytes each: the next vertex, and the only edge out of it, with its own p. In this order no edge can come too early.
+abbrev pub linkFrame : Begun → (ℕ → ℕ) → ℕ → ℕ → ℕ → Step
+linkFrame s to e d p =
+    let i = length (s .vertices) in
+    gate (within 1 largestE e && within 1 largestD d && within 1 largestP p) 3
+    (gate (leb d p) 4
+    (on (linked (s .tasks) (task (s .m) (s .vertices ++ (vertex e d ∷ [])) (s .edges ++ (edge i (to i) p ∷ []))) to (s .wantV - 1))))
+
+-- ---- which frame may stand there
+
+-- a vertex's: of a plain task, or of a ring or a gear table
+abbrev pub wantedVertex : Begun → Option (ℕ → ℕ) → List ℕ → Step
+wantedVertex s none f = pick (isFrame 2 5 f) (vertexFrame s (word f 1) (word f 3)) (wrong 2)
+wantedVertex s (some to) f = pick (isFrame 6 7 f) (linkFrame s to (word f 1) (word f 3) (word f 5)) (wrong 2)
+
+-- a task frame is followed by its vertices, then its edges, that of a ring or a gear table by its frames 06 alone; then another task or the end: by how many
+-- vertices and edges are still wanted.
 -- "New task frame: 04, vertices, edges, m (2 bytes, 1 to 1,000). Frame 01 means m = 0; 04 with 0 is refusal 3."
 abbrev pub framed : Begun → ℕ → ℕ → List ℕ → Step
-framed s (suc v) e f = pick (isFrame 2 5 f) (vertexFrame s (word f 1) (word f 3)) (wrong 2)
+framed s (suc v) e f = wantedVertex s (s .leads) f
 framed s zero (suc e) f = pick (isFrame 3 5 f) (edgeFrame s (getD f 1 0) (getD f 2 0) (word f 3)) (wrong 2)
 framed s zero zero f =
     pick (isFrame 1 3 f && ltb (length (closed s)) mostTasks) (taskFrame s (getD f 1 0) (getD f 2 0) 0 0)
     (pick (isFrame 4 5 f && ltb (length (closed s)) mostTasks) (taskFrame s (getD f 1 0) (getD f 2 0) 1 (word f 3))
-    (pick (isFrame 0 1 f && ltb 0 (length (closed s))) (over (closed s)) (wrong 2)))
+    (pick (isFrame 5 2 f && ltb (length (closed s)) mostTasks) (vendorFrame s ringTo (getD f 1 0))
+    (pick (isFrame 7 2 f && ltb (length (closed s)) mostTasks) (vendorFrame s gearTo (getD f 1 0))
+    (pick (isFrame 0 1 f && ltb 0 (length (closed s))) (over (closed s)) (wrong 2)))))
 
 abbrev pub stepAt : Begun → Option (List ℕ) → Step
 stepAt s none = wrong 1

@@ -10,6 +10,8 @@ use Rattle.meaning.specs.Bounds.{mostTasks, mostVertices, mostEdges, lar
 use Rattle.meaning.specs.Table.{Task, Table}
 use Rattle.meaning.specs.Text.{linesOf, readable, unreadable, read}
 use Rattle.meaning.specs.Sound.{SoundTable}
+use Rattle.meaning.specs.Writing.{textOf}
+use Rattle.meaning.specs.Rings.{Plain}
 
 -- ---- readable texts
 
@@ -49,11 +51,13 @@ taskLength k = taskLine (k .m) + vertexLine * length (k .vertices) + edgeLine * 
 abbrev pub textLength : Table → ℕ
 textLength ts = sum (map taskLength ts) + endLine
 
--- "The longest text is now 3,963 bytes." A readable text has exactly the bytes of its table's lines; none has more than that number, and some text
--- has so many.
+-- "The longest text is now 3,963 bytes." The text that is written for a table has the bytes of the table's lines, and so has every text without 05 to 07
+-- that reads as it; a text with them has no more. No readable text has more than that number, and some text has so many.
 pub record LongestText : Type 0 where
   pub number : longestText ≡ 3963
-  pub exactly : (text : List ℕ) (ts : Table) → read text ≡ readable ts → length text ≡ textLength ts
+  pub of-table : (ts : Table) → length (textOf ts) ≡ textLength ts
+  pub exactly : (text : List ℕ) (ts : Table) → Plain text → read text ≡ readable ts → length text ≡ textLength ts
+  pub at-most : (text : List ℕ) (ts : Table) → read text ≡ readable ts → length text ≤ textLength ts
   pub none-longer : (text : List ℕ) (ts : Table) → read text ≡ readable ts → length text ≤ longestText
   pub reached : (text : List ℕ) × (ts : Table) × (read text ≡ readable ts) × (length text ≡ longestText)
 

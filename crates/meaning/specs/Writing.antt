@@ -35,7 +35,7 @@ framesOfTask k = frameOfTask (k .m) (length (k .vertices)) (length (k .edges)) �
 abbrev pub framesOf : Table → List (List ℕ)
 framesOf ts = gather framesOfTask ts ++ (frameOfEnd ∷ [])
 
--- the text of a table: "one frame a line"; no text where a number has more digits than its bytes, and then `ruled` refuses it
+-- the text of a table, in frames 00 to 04: "one frame a line"; no text where a number has more digits than its bytes, and then `ruled` refuses it
 unfoldable pub textOf : Table → List ℕ
 textOf ts = gather line (framesOf ts)
 

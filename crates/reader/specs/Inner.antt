@@ -25,7 +25,7 @@ lastStatus line left = pick (eqb left endBytes) Readable (refusedStatus BytesAft
 abbrev pub endedStatus : TaskOrEndLine → ℕ → ℕ → Status
 endedStatus (FrameRefused w) line left = refusedStatus w line
 endedStatus EndTaken line left = lastStatus line left
-endedStatus (TaskTaken v e m) line left = lastStatus line left
+endedStatus (TaskTaken h) line left = lastStatus line left
 
 abbrev pub isRefused : Status → Bool
 isRefused Readable = false

@@ -4,7 +4,6 @@
 // The reader goes down by task: a line is tested for just the frame that must stand there, and looked through for its refusal only where
 // that fails. Each line that is taken has as many bytes as its frame, so that places in the text and line numbers are sums.
 use frames::END_BYTES;
-use frames::PART_BYTES;
 use frames::TaskOrEndLine;
 use kinds::Refusal;
 use kinds::RefusedAt;
@@ -73,12 +72,12 @@ pub fn read(text: &[u8]) -> Reading
     loop {
         let k = table.n;
         let next = frames::task_or_end_line(&worths, &text[at..], k);
-        let TaskOrEndLine::TaskTaken(v, e, m) = next else {
+        let TaskOrEndLine::TaskTaken(head) = next else {
             status = ended(next, line, text.len() - at);
             break;
         };
-        let from = at + frames::task_bytes(m);
-        let taken = lines::read_task(&worths, text, from, v, e, m);
+        let from = at + frames::head_bytes(head);
+        let taken = lines::read_task(&worths, text, from, head);
         let outcome = taken.outcome;
         if let Outcome::StoppedBy(refusal) = outcome {
             status = refused(refusal, line + 1 + taken.count);
@@ -87,8 +86,8 @@ pub fn read(text: &[u8]) -> Reading
         let task = taken.task;
         table.tasks[k] = task;
         table.n = k + 1;
-        line = line + 1 + v + e;
-        at = from + (v + e) * PART_BYTES;
+        line = line + 1 + taken.count;
+        at = from + taken.bytes;
     }
     if is_refused(status) {
         table = table::no_table();

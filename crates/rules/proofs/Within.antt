@@ -7,7 +7,7 @@ use lib.Dec.{leb, ltb}
 use borrow.Author.Tests.{ltb-true, leb-true}
 use Rattle.meaning.specs.Bounds.{mostVertices, mostEdges, largestE, largestD, largestP, largestM}
 use Rattle.meaning.specs.Text.{within}
-use Rattle.rules.specs.Rules.{taskIn, vertexIn, edgeIn}
+use Rattle.rules.specs.Rules.{taskIn, vertexIn, edgeIn, linkIn}
 
 pub differ : {A : Type 0} → true ≡ false → A
 differ g = absurd (let k : _≡_ {A = ℕ} 0 1 = cc in omega arith)
@@ -16,7 +16,7 @@ pub both-true : (a b : Bool) → a && b ≡ true → (a ≡ true) × (b ≡ true
 both-true true b e = (refl, e)
 both-true false b e = differ (sym e)
 
-within-bounds : (low high n : ℕ) → within low high n ≡ true → (low ≤ n) × (n ≤ high)
+pub within-bounds : (low high n : ℕ) → within low high n ≡ true → (low ≤ n) × (n ≤ high)
 within-bounds low high n h =
     let b = both-true (leb low n) (leb n high) h in
     (leb-true _ _ (b .0), leb-true _ _ (b .1))
@@ -66,3 +66,15 @@ edge-bounds n from to p h =
     let b = both-true (ltb from n) (ltb to n) (a .0) in
     let c = within-bounds 1 largestP p (a .1) in
     record { from-in = ltb-true _ _ (b .0); to-in = ltb-true _ _ (b .1); some-p = c .0; p-in = c .1 }
+
+pub record LinkBounds (e d p : ℕ) : Type 0 where
+  pub vertex : VertexBounds e d
+  pub some-p : 1 ≤ p
+  pub p-in : p ≤ largestP
+
+pub link-bounds : (e d p : ℕ) → linkIn e d p ≡ true → LinkBounds e d p
+unfolding linkIn vertexIn
+link-bounds e d p h =
+    let a = both-true (vertexIn e d) (within 1 largestP p) h in
+    let c = within-bounds 1 largestP p (a .1) in
+    record { vertex = vertex-bounds e d (a .0); some-p = c .0; p-in = c .1 }

@@ -14,9 +14,16 @@ taskIn v e least m = within 1 mostVertices v && leb e mostEdges && within least 
 unfoldable pub vertexIn : ℕ → ℕ → Bool
 vertexIn e d = within 1 largestE e && within 1 largestD d
 
+abbrev pub separationIn : ℕ → Bool
+separationIn p = within 1 largestP p
+
 -- in a task of n vertices
 unfoldable pub edgeIn : ℕ → ℕ → ℕ → ℕ → Bool
 edgeIn n from to p = ltb from n && ltb to n && within 1 largestP p
+
+-- a vertex of a ring or a gear table, with its only edge
+unfoldable pub linkIn : ℕ → ℕ → ℕ → Bool
+linkIn e d p = within 1 largestE e && within 1 largestD d && within 1 largestP p
 
 -- ---- orders
 

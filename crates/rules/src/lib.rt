@@ -3,7 +3,7 @@
 //
 // On numbers alone, so that whoever takes a frame, from a text or from a table, asks the same questions.
 ghost use mathlib.Core.Path.{_≡_};
-ghost use Rattle.rules.specs.Rules.{taskIn, vertexIn, edgeIn, maskCovered, edgeSpaced, edgePlace, leastAfter, edgeAfter};
+ghost use Rattle.rules.specs.Rules.{taskIn, vertexIn, separationIn, edgeIn, linkIn, maskCovered, edgeSpaced, edgePlace, leastAfter, edgeAfter};
 
 // The bounds, in the width of the numbers that are tested.
 const MOST_VERTICES: u32 = bounds::MOST_VERTICES as u32;
@@ -52,6 +52,15 @@ pub fn vertex_in(e: u32, d: u32) -> bool
     d <= LARGEST_D
 }
 
+fn separation_in(p: u32) -> bool
+    ensures { λ r. ⌜ r ≡ separationIn p ⌝ }
+{
+    if p < 1 {
+        return false;
+    }
+    p <= LARGEST_P
+}
+
 // In a task of n vertices.
 pub fn edge_in(n: u32, from: u32, to: u32, p: u32) -> bool
     ensures { λ r. ⌜ r ≡ edgeIn n from to p ⌝ }
@@ -62,10 +71,17 @@ pub fn edge_in(n: u32, from: u32, to: u32, p: u32) -> bool
     if n <= to {
         return false;
     }
-    if p < 1 {
+    separation_in(p)
+}
+
+// A vertex of a ring or a gear table, with its only edge.
+pub fn link_in(e: u32, d: u32, p: u32) -> bool
+    ensures { λ r. ⌜ r ≡ linkIn e d p ⌝ }
+{
+    if !vertex_in(e, d) {
         return false;
     }
-    p <= LARGEST_P
+    separation_in(p)
 }
 
 pub fn mask_covered(m: u32, largest: u32) -> bool

@@ -1,8 +1,8 @@
 -- The demands of the writer, from what its promise says of each outcome; and that the promise leaves one result.
-use mathlib.Core.Path.{_≡_, refl, sym, ap, ap₂, _∙_}
+use mathlib.Core.Path.{_≡_, refl, sym, ap, ap₂, subst, _∙_}
 use Prim.Native.Nat.{ℕ, suc, _+_, _≤_, _<_}
 use native.Mathlib.Omega.{arith}
-use mathlib.Core.List.{List, [], _∷_}
+use mathlib.Core.List.{List, [], _∷_, map}
 use lib.ListN.{length, take, drop, length-append, length-drop}
 use lib.Seq.{take-at, drop-append-seam}
 use Rattle.meaning.specs.Lists.{gather}
@@ -12,10 +12,13 @@ use Rattle.meaning.specs.Text as Text
 use Rattle.meaning.specs.Text.{readable, unreadable, read, checked}
 use Rattle.meaning.specs.Sound.{SoundTable}
 use Rattle.meaning.specs.Writing.{framesOfTask, framesOf, textOf, Writing, unwritable, ruled, writing, writingNumbers, areaAfter}
+use Rattle.meaning.specs.Rings.{Plain, taskOf, textOfForms}
 use Rattle.meaning.specs.Areas.{written}
 use Rattle.meaning.proofs.Readable.{read-sound}
-use Rattle.meaning.proofs.FramesBack.{text-of-read}
-use Rattle.meaning.proofs.TextRead.{refused-read}
+use Rattle.meaning.proofs.FramesBack.{forms-back, text-of-read}
+use Rattle.meaning.proofs.TextRead.{text-plain, refused-read}
+use Rattle.meaning.proofs.Rings.{expansion}
+use Rattle.checks.proofs.Forms.{forms-read}
 use Rattle.kinds.specs.declared.Refusal.{Refusal}
 use Rattle.kinds.specs.declared.RefusedAt.{RefusedAt}
 use Rattle.kinds.proofs.Numbers.{number-some, same-refusal}
@@ -33,7 +36,7 @@ use Rattle.writer.specs.declared.Written.{Written}
 use Rattle.writer.specs.declared.Written.the-variants.{Bytes, Refused}
 use Rattle.writer.specs.Written.{writtenNumbers, Writes}
 use Rattle.writer.specs.Settled.{WriteSettled}
-use Rattle.writer.specs.Demands.{ReadBack, WrittenBack, OneText, WriteCall, Demands}
+use Rattle.writer.specs.Demands.{ReadBack, WrittenBack, OneText, AsPlainTasks, OnlyForms, ReadAgain, WriteCall, Demands}
 use Rattle.writer.proofs.Outcomes.{text-means, Outcome, fits, short, broken, outcome, sound-apart}
 
 -- ---- answers by their numbers
@@ -151,6 +154,7 @@ module _ {t : Table} {before : List ℕ} {r : Written} {after : List ℕ} (w : W
         short = sound-short;
         only-sound = λ n e. written-as n e .sound;
         front = λ n e. front-is n (written-as n e);
+        never-linked = λ n e. subst Plain (sym (front-is n (written-as n e))) (text-plain ts);
         broken = broken-gets;
         same-line = λ k n l e. ruled-gets k n (refused-read ts k n l e);
         no-task = λ e. ruled-gets 2 1 (ap ruled (none-held e) ∙ none-ruled);
@@ -197,16 +201,56 @@ means-held : (text : List ℕ) (q : Reading) → Reads text q → q .status ≡ 
 means-held text q r s = let k = table-read text q r s in k .means ∙ ap readable (sym (ap tableHeld (k .is) ∙ table-held-record _))
 
 written-back : WrittenBack
-written-back text q before r after reads s room w =
+written-back text q before r after plain reads s room w =
     let ts = tableHeld (q .table) in
     let means = means-held text q reads s in
-    let back : textOf ts ≡ text = text-of-read text ts means in
+    let back : textOf ts ≡ text = text-of-read text ts plain means in
     let is : r ≡ Bytes (length text) = sound-written w (read-sound text ts means) (omega (arith, ap length back)) ∙ ap Bytes (ap length back) in
     (is, front-is w (length text) (written-as w (length text) is) ∙ back)
 
 one-text : OneText
-one-text text other q o p r s u e =
-    sym (text-of-read text (tableHeld (q .table)) (means-held text q p s)) ∙ ap textOf e ∙ text-of-read other (tableHeld (o .table)) (means-held other o r u)
+one-text text other q o a b p r s u e =
+    sym (text-of-read text (tableHeld (q .table)) a (means-held text q p s))
+    ∙ ap textOf e
+    ∙ text-of-read other (tableHeld (o .table)) b (means-held other o r u)
+
+-- ---- rings and gear tables
+
+as-plain-tasks : AsPlainTasks
+as-plain-tasks fs q s r =
+    let means : read (textOfForms fs) ≡ readable (map taskOf fs) = forms-read fs s in (
+      readable-status (textOfForms fs) (map taskOf fs) q means r,
+      ap tableHeld (r .table ∙ ap (λ (m : Text.Reading). tableRecord (Text.tasksOf m)) means) ∙ table-held-record (map taskOf fs),
+    )
+
+only-forms : OnlyForms
+only-forms text q reads s = let f = forms-back text (tableHeld (q .table)) (means-held text q reads s) in (f .forms, f .spelt, f .meant)
+
+read-again : ReadAgain
+read-again text q before r after reads s room w =
+    let ts = tableHeld (q .table) in
+    let means = means-held text q reads s in
+    let sound = read-sound text ts means in
+    let is : r ≡ Bytes (length (textOf ts)) = sound-written w sound room in
+    let front = front-is w (length (textOf ts)) (written-as w (length (textOf ts)) is) in
+    let same : read text ≡ read (take (length (textOf ts)) after) = means ∙ sym (ap read front ∙ text-means ts sound) in (
+      is,
+      record {
+        status = reads .status ∙ ap checked same;
+        table = reads .table ∙ ap (λ (m : Text.Reading). tableRecord (Text.tasksOf m)) same;
+      },
+    )
 
 pub demands : Demands
-demands = record { record-holds = table-held-record; read-back = read-back; written-back = written-back; one-text = one-text; calls = λ t before r after w. call w }
+demands =
+    record {
+      record-holds = table-held-record;
+      read-back = read-back;
+      written-back = written-back;
+      one-text = one-text;
+      expansion = expansion;
+      as-plain-tasks = as-plain-tasks;
+      only-forms = only-forms;
+      read-again = read-again;
+      calls = λ t before r after w. call w;
+    }

@@ -1,8 +1,9 @@
--- What the customer asks of the writer, wish 4's sentences: for every call of `write` and `read` that their promises allow. `proofs/Demands` proves it.
+-- What the customer asks of the writer, wish 4's sentences, and of rings and gear tables, wish 5's: for every call of `write` and `read` that their promises
+-- allow. `proofs/Demands` proves it.
 use mathlib.Core.Path.{_≡_}
 use Prim.Native.Nat.{ℕ, suc, _+_, _≤_, _<_}
 use mathlib.Core.Logic.{_⊎_}
-use mathlib.Core.List.{List, [], _∷_, List·Memᴰ}
+use mathlib.Core.List.{List, [], _∷_, map, List·Memᴰ}
 use lib.ListN.{length, take, drop}
 use Rattle.meaning.specs.Lists.{gather}
 use Rattle.meaning.specs.Bounds.{mostTasks, mostVertices, mostEdges, largestM}
@@ -10,6 +11,7 @@ use Rattle.meaning.specs.Table as Meant
 use Rattle.meaning.specs.Text.{unreadable, read}
 use Rattle.meaning.specs.Sound.{SoundVertex, AllSound, SoundTable}
 use Rattle.meaning.specs.Writing.{framesOfTask, framesOf, textOf}
+use Rattle.meaning.specs.Rings.{Plain, Expansion, Form, taskOf, textOfForms}
 use Rattle.kinds.specs.declared.RefusedAt.{RefusedAt}
 use Rattle.table.specs.declared.Table.{Table}
 use Rattle.table.specs.Record.{tableRecord, tableHeld}
@@ -32,15 +34,34 @@ abbrev pub ReadBack : Type 0
 ReadBack = (t : Table) (before : List ℕ) (n : ℕ) (after : List ℕ) (q : Reading) → Writes t before (Bytes n) after → Reads (take n after) q
     → (q .status ≡ Readable) × (tableHeld (q .table) ≡ tableHeld t)
 
--- "Writing what was read gives the same bytes", in any area that has room for them; `short` below says what is where there is none.
+-- "Writing what was read gives the same bytes", of a text without 05 to 07, in any area that has room for them; `short` below says what is where there is
+-- none.
 abbrev pub WrittenBack : Type 0
-WrittenBack = (text : List ℕ) (q : Reading) (before : List ℕ) (r : Written) (after : List ℕ) → Reads text q → q .status ≡ Readable
+WrittenBack = (text : List ℕ) (q : Reading) (before : List ℕ) (r : Written) (after : List ℕ) → Plain text → Reads text q → q .status ≡ Readable
     → length text ≤ length before → Writes (q .table) before r after → (r ≡ Bytes (length text)) × (take (length text) after ≡ text)
 
--- "Two texts mean the same table only if they are equal."
+-- "Two texts mean the same table only if they are equal", two without 05 to 07.
 abbrev pub OneText : Type 0
-OneText = (text other : List ℕ) (q o : Reading) → Reads text q → Reads other o → q .status ≡ Readable → o .status ≡ Readable
-    → tableHeld (q .table) ≡ tableHeld (o .table) → text ≡ other
+OneText = (text other : List ℕ) (q o : Reading) → Plain text → Plain other → Reads text q → Reads other o → q .status ≡ Readable
+    → o .status ≡ Readable → tableHeld (q .table) ≡ tableHeld (o .table) → text ≡ other
+
+-- ---- rings and gear tables
+
+-- "Both are read as the plain task they stand for", beside plain tasks, if the tasks that they stand for are a table that keeps the rules
+abbrev pub AsPlainTasks : Type 0
+AsPlainTasks = (fs : List Form) (q : Reading) → SoundTable (map taskOf fs) → Reads (textOfForms fs) q
+    → (q .status ≡ Readable) × (tableHeld (q .table) ≡ map taskOf fs)
+
+-- and no other text is read: each that is has its tasks described in these ways
+abbrev pub OnlyForms : Type 0
+OnlyForms = (text : List ℕ) (q : Reading) → Reads text q → q .status ≡ Readable
+    → (fs : List Form) × (text ≡ textOfForms fs) × (tableHeld (q .table) ≡ map taskOf fs)
+
+-- any table that was read is written in an area that has room for its plain text, which may be longer than the text that was read; and the same reading is
+-- the reading of what was written
+abbrev pub ReadAgain : Type 0
+ReadAgain = (text : List ℕ) (q : Reading) (before : List ℕ) (r : Written) (after : List ℕ) → Reads text q → q .status ≡ Readable
+    → let n = length (textOf (tableHeld (q .table))) in n ≤ length before → Writes (q .table) before r after → (r ≡ Bytes n) × Reads (take n after) q
 
 -- ---- what is written, and what is refused
 
@@ -68,6 +89,8 @@ module _ (t : Table) (before : List ℕ) (r : Written) (after : List ℕ) where
     pub only-sound : (n : ℕ) → r ≡ Bytes n → SoundTable ts
     -- "writes the frames", of which `frameOfTask` says "01 is written for m = 0, 04 otherwise"
     pub front : (n : ℕ) → r ≡ Bytes n → take n after ≡ textOf ts
+    -- "the writer never writes those", 05 to 07
+    pub never-linked : (n : ℕ) → r ≡ Bytes n → Plain (take n after)
     -- "A table that breaks a rule gets 2 to 5 with the line its frame would have"
     pub broken : (SoundTable ts → ⊥) → (k : ℕ) × (n : ℕ) × Gets k n × (2 ≤ k) × (k ≤ 5) × (1 ≤ n) × (n ≤ length (framesOf ts))
     -- "first line first": what the reader says of these frames' lines; but for 1, which it says of a number that has no digits in them
@@ -96,4 +119,8 @@ pub record Demands : Type 0 where
   pub read-back : ReadBack
   pub written-back : WrittenBack
   pub one-text : OneText
+  pub expansion : Expansion
+  pub as-plain-tasks : AsPlainTasks
+  pub only-forms : OnlyForms
+  pub read-again : ReadAgain
   pub calls : WriteDemands

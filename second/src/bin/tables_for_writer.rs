@@ -10,7 +10,9 @@
 mod made;
 
 use made::drafts::{Draft, TaskDraft};
-use made::{bench, broken, masked_task, random_task, refusals, task, text, Random, Size};
+use made::vendors::{damage_vendor_line, mix_in};
+use made::{bench, broken, masked_task, random_task, refusals, task, text};
+use made::{vendor_refusals, Random, Size};
 use second::case::{Case, BACK, CELLS, RECORD};
 use second::record::Record;
 use second::sequence::write_cases;
@@ -267,7 +269,7 @@ fn random_cells(random: &mut Random) -> Case {
 /// The fixed texts: written once, and several times.
 fn texts() -> Vec<Case> {
     let mut cases = Vec::new();
-    for text in bench_texts() {
+    for text in bench_texts().into_iter().chain(bench::vendor_texts()) {
         cases.extend(around(BACK, text.as_bytes()));
     }
     for text in longest_texts() {
@@ -277,6 +279,7 @@ fn texts() -> Vec<Case> {
     }
     let mut refused = Vec::new();
     refusals::add(&mut refused);
+    vendor_refusals::add(&mut refused);
     let refused = refused.into_iter().step_by(13);
     cases.extend(in_turn(
         BACK,
@@ -288,14 +291,18 @@ fn texts() -> Vec<Case> {
     cases
 }
 
-/// A random text, written once or several times; one in eight is damaged.
+/// A random text, with rings and gear tables or without, written once or several times; one in eight is damaged, and one in eight in the
+/// lines of a ring or a gear table, if it has one.
 fn random_text(random: &mut Random) -> Case {
-    let tasks: Vec<_> = (0..=random.below(4))
+    let mut tasks: Vec<_> = (0..=random.below(3))
         .map(|_| random_task(random, &SIZE))
         .collect();
+    mix_in(random, &mut tasks, &SIZE);
     let mut text = text(&tasks).into_bytes();
-    if random.below(8) == 0 {
-        made::damage(random, &mut text);
+    match random.below(8) {
+        0 => made::damage(random, &mut text),
+        1 => damage_vendor_line(random, &mut text),
+        _ => (),
     }
     Case {
         budget: random.below(4) as u32,

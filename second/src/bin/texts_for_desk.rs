@@ -1,14 +1,16 @@
 //! Writes the texts that the desk is checked with: a sequence as `second cases` reads it.
 //!
-//! The bench examples, R2 with a masked length, every refusal of a text, inputs around the longest, and random texts, whole and damaged,
-//! most with a masked length. The sequence is the same from run to run. A first argument gives the random part another seed; with a
-//! second one, only so many random texts are written.
+//! The bench examples, R2 with a masked length, R1 as rings and gear tables, every refusal of a text, inputs around the longest, and
+//! random texts, whole and damaged, most with a masked length, and most with a ring or a gear table. The sequence is the same from run to
+//! run. A first argument gives the random part another seed; with a second one, only so many random texts are written.
 
 #![forbid(unsafe_code)]
 
 mod made;
 
-use made::{bench, damage, damage_m, masked_task, random_task, refusals, task, text, Random, Size};
+use made::vendors::{damage_vendor_line, mix_in, vendor_task, KINDS};
+use made::{bench, damage, damage_m, masked_task, random_task, refusals, task, text};
+use made::{vendor_refusals, Random, Size};
 use second::bounds::INPUT_BYTES;
 use second::case::DESK;
 use second::sequence::write_sequence;
@@ -18,7 +20,9 @@ use std::io;
 /// The random part's own seed.
 const SEED: u64 = 20_261_115;
 /// How many random texts are written.
-const RANDOM_TEXTS: u64 = 280;
+const RANDOM_TEXTS: u64 = 270;
+/// One refused text of so many with a ring or a gear table is written; the reader is checked with all of them.
+const ONE_VENDOR_REFUSAL_OF: usize = 6;
 /// One random text of so many has a vertex with many groups to examine.
 const ONE_CROWDED_OF: usize = 6;
 
@@ -60,7 +64,11 @@ fn main() -> io::Result<()> {
 fn all_texts(seed: u64) -> Vec<Vec<u8>> {
     let mut texts: Vec<_> = bench::texts().into_iter().map(String::into_bytes).collect();
     texts.extend(bench::masked_texts().map(String::into_bytes));
+    texts.extend(bench::vendor_texts().into_iter().map(String::into_bytes));
     refusals::add(&mut texts);
+    let mut refused = Vec::new();
+    vendor_refusals::add(&mut refused);
+    texts.extend(refused.into_iter().step_by(ONE_VENDOR_REFUSAL_OF));
     long_inputs(&mut texts);
     for (n, last_e) in [(11, 1), (12, 1), (11, 2), (12, 2)] {
         texts.push(every_group(n, last_e).into_bytes());
@@ -98,17 +106,19 @@ fn random_texts(seed: u64, count: u64) -> Vec<Vec<u8>> {
     (0..count).map(|_| random_text(&mut random)).collect()
 }
 
-/// A random table's text, whole or damaged in up to four ways.
+/// A random table's text, whole or damaged in up to five ways.
 fn random_text(random: &mut Random) -> Vec<u8> {
     if random.below(ONE_CROWDED_OF) == 0 {
         return crowded(random).into_bytes();
     }
-    let mut text = String::new();
-    for _ in 0..=random.below(5) {
+    let mut tasks = Vec::new();
+    for _ in 0..=random.below(4) {
         let size = &SIZES[random.below(SIZES.len())];
-        text += &random_task(random, size);
+        tasks.push(random_task(random, size));
     }
-    text += "00\n";
+    let size = &SIZES[random.below(SIZES.len())];
+    mix_in(random, &mut tasks, size);
+    let mut text = text(&tasks);
     if random.below(2) == 0 {
         return text.into_bytes();
     }
@@ -118,6 +128,9 @@ fn random_text(random: &mut Random) -> Vec<u8> {
     let mut text = text.into_bytes();
     if random.below(4) == 0 {
         damage_m(random, &mut text);
+    }
+    if random.below(2) == 0 {
+        damage_vendor_line(random, &mut text);
     }
     for _ in 0..random.below(3) {
         if !text.is_empty() {
@@ -160,7 +173,7 @@ fn crowded(random: &mut Random) -> String {
             let at = random.below(vertices.len());
             vertices[at].0 = 1 + random.below(3) as u32;
         }
-        tasks.push(task(&vertices, &[]));
+        tasks.push(alike_task(random, &vertices));
     }
     let a = 2 + random.below(3) as u32;
     let b = a + random.below(4) as u32;
@@ -171,4 +184,14 @@ fn crowded(random: &mut Random) -> String {
         tasks.push(masked_task(masked, &[(masked, 50)], &[]));
     }
     text(&tasks)
+}
+
+/// The lines of a task of these vertices, each of which is a path by itself: without edges, or a ring or a gear table with separations
+/// beyond every deadline here.
+fn alike_task(random: &mut Random, vertices: &[(u32, u32)]) -> String {
+    let separated: Vec<_> = vertices.iter().map(|&(e, d)| (e, d, 40)).collect();
+    match random.below(4) {
+        0 => vendor_task(KINDS[random.below(2)], &separated),
+        _ => task(vertices, &[]),
+    }
 }

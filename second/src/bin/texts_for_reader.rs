@@ -1,12 +1,13 @@
 //! Writes the texts that the reader is checked with: a sequence as `second cases` reads it.
 //!
-//! Every refusal of a text, each bound and one past it, and random texts, whole and damaged, most with a masked length. The sequence is the same from run to run.
+//! Every refusal of a text, each bound and one past it, and random texts, whole and damaged, most with a masked length, and most with a ring or a gear table. The sequence is the same from run to run.
 
 #![forbid(unsafe_code)]
 
 mod made;
 
-use made::{damage, damage_m, random_task, refusals, Random, Size};
+use made::vendors::{damage_vendor_line, mix_in};
+use made::{damage, damage_m, random_task, refusals, text, vendor_refusals, Random, Size};
 use second::case::CHECK;
 use second::sequence::write_sequence;
 use std::io;
@@ -26,21 +27,24 @@ const SIZE: Size = Size {
 fn main() -> io::Result<()> {
     let mut texts = Vec::new();
     refusals::add(&mut texts);
+    vendor_refusals::add(&mut texts);
     random(&mut texts);
     write_sequence(CHECK, texts)
 }
 
-/// Random tables, each whole and damaged in one way, at times in its masked lengths.
+/// Random tables, each whole and damaged in one way, at times in its masked lengths or in a ring or a gear table.
 fn random(texts: &mut Vec<Vec<u8>>) {
     let mut random = Random(20_261_115);
     for _ in 0..RANDOM_TABLES {
-        let tasks: String = (0..=random.below(3))
+        let mut tasks: Vec<_> = (0..=random.below(2))
             .map(|_| random_task(&mut random, &SIZE))
             .collect();
-        let mut text = (tasks + "00\n").into_bytes();
+        mix_in(&mut random, &mut tasks, &SIZE);
+        let mut text = text(&tasks).into_bytes();
         texts.push(text.clone());
         match random.below(4) {
             0 => damage_m(&mut random, &mut text),
+            1 => damage_vendor_line(&mut random, &mut text),
             _ => damage(&mut random, &mut text),
         }
         texts.push(text);

@@ -1,12 +1,13 @@
 //! Writes the texts that the words for people are checked with, each to a file of its own in the folder that the argument names.
 //!
-//! The bench examples, faulty lines of every kind, each verdict, masked time, and random tables, most with a masked length. The texts are the same from run to run.
+//! The bench examples, faulty lines of every kind, each verdict, masked time, rings and gear tables, and random tables, most with a masked length, and most with a ring or a gear table. The texts are the same from run to run.
 
 #![forbid(unsafe_code)]
 
 mod made;
 
 use made::refusals::{with, LINES};
+use made::vendors::mix_in;
 use made::{bench, masked_task, random_task, self_edge, task, text, Random, Size};
 use second::bounds::INPUT_BYTES;
 use std::path::PathBuf;
@@ -42,6 +43,7 @@ fn texts() -> Vec<Vec<u8>> {
     ends(&mut texts);
     verdicts(&mut texts);
     masked(&mut texts);
+    texts.extend(bench::vendor_texts().into_iter().map(String::into_bytes));
     random(&mut texts);
     texts
 }
@@ -86,12 +88,21 @@ fn rules(texts: &mut Vec<Vec<u8>>) {
         (1, "0402020003\n"),
         (1, "04020203e9\n"),
         (1, "04020202\n"),
+        (1, "050d\n"),
+        (1, "050202\n"),
+        (3, "06000100050005\n"),
     ] {
         texts.push(with(line, faulty));
     }
     texts.push(with(2, &("02".repeat(31) + "\n")));
     let ninth = task(&[(1, 1)], &[]).repeat(9);
     texts.push(ninth.into_bytes());
+    for text in [
+        "0702\n06000100050005\n06000100060005\n",
+        "0501\n06000100c90064\n",
+    ] {
+        texts.push(text.into());
+    }
 }
 
 /// Refusals 6, 7 and 12.
@@ -149,13 +160,14 @@ fn masked(texts: &mut Vec<Vec<u8>>) {
     texts.extend(tables.map(|tasks| text(&tasks).into_bytes()));
 }
 
-/// Random tables of up to four tasks.
+/// Random tables of up to four tasks, and most with one or two rings or gear tables among them.
 fn random(texts: &mut Vec<Vec<u8>>) {
     let mut random = Random(20_261_117);
     for _ in 0..RANDOM_TABLES {
-        let tasks: Vec<_> = (0..=random.below(4))
+        let mut tasks: Vec<_> = (0..=random.below(4))
             .map(|_| random_task(&mut random, &SIZE))
             .collect();
+        mix_in(&mut random, &mut tasks, &SIZE);
         texts.push(text(&tasks).into_bytes());
     }
 }

@@ -1,10 +1,12 @@
 //! What the tests share: texts by hand, the document's definitions, a pseudo-random generator, and the program run.
 
 pub mod definitions;
+pub mod generators;
 pub mod lateness;
 pub mod random;
 pub mod refused;
 pub mod sheet;
+pub mod vendors;
 pub mod writing;
 
 use second::case::Case;

@@ -1,4 +1,4 @@
-//! The refusal sheet's rows 1 to 7, with what wish 3 adds to them, once more, line by line and without a reader's structure.
+//! The refusal sheet's rows 1 to 7, with what wishes 3 and 5 add to them, once more, line by line and without a reader's structure.
 
 use super::Task;
 
@@ -8,6 +8,9 @@ struct Expected {
     tasks: Vec<Task>,
     vertices: u32,
     edges: u32,
+    /// Vertices of a ring or a gear table.
+    vendor_vertices: u32,
+    in_gears: bool,
 }
 
 /// The tasks of a valid text, or the number and line of its refusal.
@@ -45,13 +48,15 @@ fn numbers(line: &[u8]) -> Option<Vec<u32>> {
 impl Expected {
     /// Takes a frame: whether it is the end, or the first of rows 2 to 5 that holds.
     fn take(&mut self, frame: &[u32]) -> Result<bool, u8> {
-        let inside = self.vertices + self.edges > 0;
+        let inside = self.vertices + self.edges + self.vendor_vertices > 0;
         let allowed = match frame[0] {
             0 => !inside && !self.tasks.is_empty() && frame.len() == 1,
             1 => !inside && self.tasks.len() < 8 && frame.len() == 3,
             4 => !inside && self.tasks.len() < 8 && frame.len() == 5,
             2 => self.vertices > 0 && frame.len() == 5,
             3 => self.vertices == 0 && self.edges > 0 && frame.len() == 5,
+            5 | 7 => !inside && self.tasks.len() < 8 && frame.len() == 2,
+            6 => self.vendor_vertices > 0 && frame.len() == 7,
             _ => false,
         };
         if !allowed {
@@ -62,6 +67,12 @@ impl Expected {
             1 => self.take_task(frame[1], frame[2])?,
             4 => self.take_masked_task(frame[1], frame[2], frame[3] * 256 + frame[4])?,
             2 => self.take_vertex(frame[1] * 256 + frame[2], frame[3] * 256 + frame[4])?,
+            6 => self.take_vendor_vertex(
+                frame[1] * 256 + frame[2],
+                frame[3] * 256 + frame[4],
+                frame[5] * 256 + frame[6],
+            )?,
+            5 | 7 => self.take_vendor_task(frame[1], frame[0] == 7)?,
             _ => self.take_edge(
                 frame[1] as usize,
                 frame[2] as usize,
@@ -118,6 +129,35 @@ impl Expected {
         }
         self.edges -= 1;
         task.edges.push((from, to, p));
+        Ok(())
+    }
+
+    fn take_vendor_task(&mut self, count: u32, in_gears: bool) -> Result<(), u8> {
+        if count == 0 || count > 12 {
+            return Err(3);
+        }
+        (self.vendor_vertices, self.in_gears) = (count, in_gears);
+        self.tasks.push(Task::default());
+        Ok(())
+    }
+
+    fn take_vendor_vertex(&mut self, e: u32, d: u32, p: u32) -> Result<(), u8> {
+        if e == 0 || e > 1000 || d == 0 || d > 200 || p == 0 || p > 1000 {
+            return Err(3);
+        }
+        if d > p {
+            return Err(4);
+        }
+        self.vendor_vertices -= 1;
+        let task = self.tasks.last_mut().unwrap();
+        let number = task.vertices.len();
+        let to = match (self.in_gears, self.vendor_vertices) {
+            (true, _) => number,
+            (false, 0) => 0,
+            (false, _) => number + 1,
+        };
+        task.vertices.push((e, d));
+        task.edges.push((number, to, p));
         Ok(())
     }
 }

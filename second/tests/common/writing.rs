@@ -3,6 +3,7 @@
 use super::{text, Task};
 use second::record::{EdgeRecord, Record, TaskRecord, VertexRecord};
 use second::table::{Ticks, VertexNo};
+use second::text::read;
 use second::write::write;
 
 /// The bytes written, or the number and place of a refusal.
@@ -39,6 +40,15 @@ pub fn record(tasks: &[Task]) -> Record {
 /// Bytes that no text has, so that any change shows.
 pub fn byte_area(bytes: usize) -> Vec<u8> {
     (0..bytes).map(|at| 0x90 + (at % 89) as u8).collect()
+}
+
+/// What a text gives when it is read and written again, to an area of more bytes than any text has.
+pub fn written_back(bytes: &[u8]) -> Vec<u8> {
+    let table = read(bytes).unwrap();
+    let mut area = byte_area(4_000);
+    let written = write(&Record::from(&table), &mut area).unwrap();
+    assert_eq!(area[written..], byte_area(4_000)[written..]);
+    area[..written].to_vec()
 }
 
 /// Writes the tasks to an area of so many bytes, and checks that each byte of it is as it has to be: what the writer says.

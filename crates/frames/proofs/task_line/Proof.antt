@@ -38,14 +38,14 @@ returns-2 c =
     let at-task-in = c .before .before in
     task-outside _ _ _ _ _ (seen at-task-in) (failed (at-task-in .task-in .ensures) (c .before .if2 .taken)) (c .fault2 .ensures)
 
-cast-t15 : tie.Need-cast-t15
-cast-t15 c = search needs
-
 cast-t16 : tie.Need-cast-t16
 cast-t16 c = search needs
 
 cast-t17 : tie.Need-cast-t17
-cast-t17 c = omega (arith, task-bounds _ _ _ _ (held (c .before .task-in .ensures) (c .if2 .left)) .m-in)
+cast-t17 c = search needs
+
+cast-t18 : tie.Need-cast-t18
+cast-t18 c = omega (arith, task-bounds _ _ _ _ (held (c .before .task-in .ensures) (c .if2 .left)) .m-in)
 
 returns-3 : tie.Need-returns-3
 returns-3 c = task-taken _ _ _ _ _ (seen (c .before)) (held (c .before .task-in .ensures) (c .if2 .left))
@@ -61,7 +61,7 @@ task-line-spec =
     task-in-requires
     fault-requires-2
     returns-2
-    cast-t15
     cast-t16
     cast-t17
+    cast-t18
     returns-3)

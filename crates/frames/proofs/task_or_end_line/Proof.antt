@@ -1,9 +1,10 @@
-use Rattle.frames.proofs.Answers.{plain-task, masked-task, no-task}
+use Rattle.frames.proofs.Answers.{plain-task, masked-task, ring, gears, no-task}
 use Rattle.frames.proofs.Expected.{starts-says}
 use Prim.Native.Nat.{_<_}
-use mathlib.Core.Path.{sym, _∙_}
+use mathlib.Core.Path.{_≡_, sym, _∙_}
+use mathlib.Core.Bool.{false}
 use lib.ListN.{length}
-use Rattle.frames.specs.Frames.{taskDigits, partDigits}
+use Rattle.frames.specs.Frames.{taskDigits, partDigits, startsWith}
 use native.Mathlib.Omega.{arith}
 use borrow.Author.Needs.{needs}
 use Rattle.frames.proofs.task_or_end_line.Statement.{statement}
@@ -41,14 +42,53 @@ returns-2 c =
     masked-task _ _ (sym (first .before .starts .ensures) ∙ first .if1 .left) (sym (test .before .starts2 .ensures) ∙ test .if2 .taken)
     (word .word-at .ensures) (c .task-line2 .ensures) (omega arith)
 
-end-line-requires : tie.Need-end-line-requires
-end-line-requires c κs = search needs
+-- behind the second test
+no-plain : (c : tie.Else2) → let a = c .before .before .before .before .before .args in
+    (startsWith (a .text .now) 49 taskDigits ≡ false) × (startsWith (a .text .now) 52 partDigits ≡ false)
+no-plain c =
+    let first = c .before .before in
+    (sym (first .before .starts .ensures) ∙ first .if1 .left, sym (c .before .starts2 .ensures) ∙ c .if2 .left)
+
+starts-requires-3 : tie.Need-starts-requires-3
+starts-requires-3 c κs = search needs
+
+linked-line-requires : tie.Need-linked-line-requires
+linked-line-requires c κs =
+    (starts-says _ _ _ (sym (c .before .starts3 .ensures) ∙ c .if3 .taken) .long, c .before .before .before .before .before .before .before .pre)
 
 returns-3 : tie.Need-returns-3
 returns-3 c =
     let test = c .before in
-    let first = test .before .before in
-    no-task _ _ (sym (first .before .starts .ensures) ∙ first .if1 .left) (sym (test .before .starts2 .ensures) ∙ test .if2 .left) (c .end-line .ensures)
+    let no = no-plain (test .before .before) in
+    ring _ _ (no .0) (no .1) (sym (test .before .starts3 .ensures) ∙ test .if3 .taken) (c .linked-line .ensures)
+
+starts-requires-4 : tie.Need-starts-requires-4
+starts-requires-4 c κs = search needs
+
+linked-line-requires-2 : tie.Need-linked-line-requires-2
+linked-line-requires-2 c κs = (
+  starts-says _ _ _ (sym (c .before .starts4 .ensures) ∙ c .if4 .taken) .long,
+  c .before .before .before .before .before .before .before .before .before .pre,
+)
+
+returns-4 : tie.Need-returns-4
+returns-4 c =
+    let test = c .before in
+    let third = test .before .before in
+    let no = no-plain (third .before .before) in
+    gears _ _ (no .0) (no .1) (sym (third .before .starts3 .ensures) ∙ third .if3 .left) (sym (test .before .starts4 .ensures) ∙ test .if4 .taken)
+    (c .linked-line2 .ensures)
+
+end-line-requires : tie.Need-end-line-requires
+end-line-requires c κs = search needs
+
+returns-5 : tie.Need-returns-5
+returns-5 c =
+    let test = c .before in
+    let third = test .before .before in
+    let no = no-plain (third .before .before) in
+    no-task _ _ (no .0) (no .1) (sym (third .before .starts3 .ensures) ∙ third .if3 .left) (sym (test .before .starts4 .ensures) ∙ test .if4 .left)
+    (c .end-line .ensures)
 
 pub task-or-end-line-spec : {M : Type 1} → statement M
 task-or-end-line-spec =
@@ -61,5 +101,11 @@ task-or-end-line-spec =
     word-at-requires
     task-line-requires-2
     returns-2
+    starts-requires-3
+    linked-line-requires
+    returns-3
+    starts-requires-4
+    linked-line-requires-2
+    returns-4
     end-line-requires
-    returns-3)
+    returns-5)

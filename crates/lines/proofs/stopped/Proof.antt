@@ -8,7 +8,7 @@ no-task-requires : tie.Need-no-task-requires
 no-task-requires c κs = search needs
 
 returns : tie.Need-returns
-returns c = ap (tookTask _ _) (c .no-task .ensures)
+returns c = ap (tookTask _ _ _) (c .no-task .ensures)
 
 pub stopped-spec : {M : Type 1} → statement M
 stopped-spec = tie.close (tie.spec no-task-requires returns)

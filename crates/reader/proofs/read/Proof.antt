@@ -28,26 +28,23 @@ frame : (c : tie.After-task-or-end-line Inv-loop μ-loop) →
 frame c = record { turn = c .before .before .before .loop .inv; gives = c .task-or-end-line .ensures }
 
 facts : (c : tie.After-known-told Inv-loop μ-loop) →
-    let counts = c .before .next .given .0 in
     let l = c .before .before .before .before .before .before in
-    TaskFacts (l .before .before .before .before .args .text .now) (l .loop .table) (l .loop .at) (l .loop .line) (counts .0) (counts .1 .0) (counts .1 .1 .0)
+    TaskFacts (l .before .before .before .before .args .text .now) (l .loop .table) (l .loop .at) (l .loop .line) (c .before .next .given .0 .0)
 facts c = task-facts (frame (c .before .before .before)) (c .before .next .given .1)
 
 lines : (c : tie.After-read-task Inv-loop μ-loop) →
     let bytes = c .before .before in
     let next = bytes .before .before in
-    let counts = next .next .given .0 in
     let l = next .before .before .before .before .before in
     let text = l .before .before .before .before .args .text .now in
-    TaskTurn text (l .loop .table) (l .loop .at) (l .loop .line) (counts .0) (counts .1 .0) (counts .1 .1 .0) (l .loop .at + bytes .task-bytes .result)
-    (c .read-task .result)
+    TaskTurn text (l .loop .table) (l .loop .at) (l .loop .line) (next .next .given .0 .0) (l .loop .at + bytes .head-bytes .result) (c .read-task .result)
 lines c =
     let bytes = c .before .before in
     let next = bytes .before .before in
     let line = next .before .before in
     record {
       frame = record { turn = line .before .before .before .loop .inv; gives = sym (next .next .given .1) ∙ line .task-or-end-line .ensures };
-      place = ap (λ n. line .before .before .before .loop .at + n) (bytes .task-bytes .ensures);
+      place = ap (λ n. line .before .before .before .loop .at + n) (bytes .head-bytes .ensures);
       gives = c .read-task .ensures;
     }
 
@@ -81,17 +78,17 @@ sub-ended c = search needs
 ended-requires : tie.Need-ended-requires Inv-loop μ-loop
 ended-requires c κs = let t = c .before .before .before .before .loop .inv in omega (arith, t .early, t .few)
 
-task-bytes-requires : tie.Need-task-bytes-requires Inv-loop μ-loop
-task-bytes-requires c κs = search needs
+head-bytes-requires : tie.Need-head-bytes-requires Inv-loop μ-loop
+head-bytes-requires c κs = search needs
 
 add-from : tie.Need-add-from Inv-loop μ-loop
-add-from c = let f = facts (c .before) in omega (arith, c .task-bytes .ensures)
+add-from c = let f = facts (c .before) in omega (arith, c .head-bytes .ensures)
 
 read-task-requires : tie.Need-read-task-requires Inv-loop μ-loop
 read-task-requires c κs =
     let f = facts (c .before .before) in
     let made = c .before .before .before .before .before .before .before .before .before .before in
-    (omega (arith, c .before .task-bytes .ensures), omega arith, omega arith, omega arith, made .worths .ensures)
+    (omega (arith, c .before .head-bytes .ensures), omega arith, omega arith, omega arith, made .worths .ensures)
 
 enum-known-outcome : tie.Need-enum-known-outcome Inv-loop μ-loop
 enum-known-outcome c = search needs
@@ -125,28 +122,22 @@ add-line : tie.Need-add-line Inv-loop μ-loop
 add-line c = let f = facts (c .before .before .before .before .before .before) in omega arith
 
 add-line-2 : tie.Need-add-line-2 Inv-loop μ-loop
-add-line-2 c = let f = facts (c .before .before .before .before .before .before) in omega arith
-
-add-line-3 : tie.Need-add-line-3 Inv-loop μ-loop
-add-line-3 c = let f = facts (c .before .before .before .before .before .before) in omega arith
+add-line-2 c =
+    let f = facts (c .before .before .before .before .before .before .before) in
+    omega (arith, lines-few (lines (c .before .before .before .before)))
 
 add-at : tie.Need-add-at Inv-loop μ-loop
-add-at c = let f = facts (c .before .before .before .before .before .before) in omega arith
-
-mul-at : tie.Need-mul-at Inv-loop μ-loop
-mul-at c = let f = facts (c .before .before .before .before .before .before) in omega arith
-
-add-at-2 : tie.Need-add-at-2 Inv-loop μ-loop
-add-at-2 c =
-    let g = task-more (lines (c .before .before .before)) (c .before .enum-told .given .1) in
-    let known = c .before .before .before .before .before .before .before .before .before .before .before .before .before .before .before in
-    omega (arith, g .inside, known .before .good)
+add-at c =
+    let told = c .before .before .before in
+    let g = task-more (lines (told .before .before)) (told .enum-told .given .1) in
+    let start = told .before .before .before .before .before .before .before .before .before .before .before .before .before .before .before in
+    omega (arith, g .inside, start .good)
 
 loop-less : tie.Need-loop-less Inv-loop μ-loop
-loop-less c = let f = facts (c .before .before .before .before .before .before) in omega arith
+loop-less c = let f = facts (c .before .before .before .before .before .before .before .before) in omega arith
 
 loop-again : tie.Need-loop-again Inv-loop μ-loop
-loop-again c = task-more (lines (c .before .before .before)) (c .before .enum-told .given .1)
+loop-again c = let told = c .before .before .before in task-more (lines (told .before .before)) (told .enum-told .given .1)
 
 -- where the loop is left, the reading is known: no task's frame stands there, or a line of the task is refused
 closed : (c : tie.At-match-came Inv-loop μ-loop) →
@@ -160,7 +151,7 @@ closed c =
     let told : tie.After-known-told Inv-loop μ-loop =
     record { before = record { before = record { before = c .before; match = w .0 }; next = w .1 }; known-told = w .2 } in
     let taken : tie.After-read-task Inv-loop μ-loop =
-    record { before = record { before = record { before = told; task-bytes = w .3 }; worths3 = w .4 }; read-task = w .5 } in
+    record { before = record { before = record { before = told; head-bytes = w .3 }; worths3 = w .4 }; read-task = w .5 } in
     ap (λ (x : Status). readingWith x table) (w .11 ∙ w .10 .ensures) ∙ task-stops (lines taken) (w .7 .given .1) (omega arith))
     (c .match .came)
 
@@ -196,7 +187,7 @@ read-spec =
     enum-known-next
     sub-ended
     ended-requires
-    task-bytes-requires
+    head-bytes-requires
     add-from
     read-task-requires
     enum-known-outcome
@@ -209,10 +200,7 @@ read-spec =
     add-table
     add-line
     add-line-2
-    add-line-3
     add-at
-    mul-at
-    add-at-2
     loop-less
     loop-again
     is-refused-requires

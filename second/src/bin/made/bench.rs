@@ -1,5 +1,6 @@
-//! The bench examples R1 to R11 as texts, and R2 with a masked length.
+//! The bench examples R1 to R11 as texts, R2 with a masked length, and R1 as rings and gear tables.
 
+use super::vendors::{vendor_task, KINDS};
 use super::{masked_task, self_edge, task, text};
 
 /// R1's text, with the last e.
@@ -23,6 +24,21 @@ pub fn masked_texts() -> [String; 4] {
     let below = |fourth: &String| text(&[r1_tasks(1), vec![fourth.clone()]].concat());
     let above = |first: &String| text(&[vec![first.clone()], r1_tasks(1)].concat());
     [below(&masked), below(&plain), above(&masked), above(&plain)]
+}
+
+/// R1 as rings and gear tables of one vertex each, and then one of three vertices of each kind above a vertex of e 2 and of e 3.
+pub fn vendor_texts() -> Vec<String> {
+    let mut texts = Vec::new();
+    for kinds in [["05", "07", "05"], ["07", "05", "07"]] {
+        let vertices = [(2, 5, 5), (2, 7, 7), (2, 6, 7)];
+        let tasks = [0, 1, 2].map(|number| vendor_task(kinds[number], &[vertices[number]]));
+        texts.push(text(&tasks));
+    }
+    for kind in KINDS {
+        let above = vendor_task(kind, &[(1, 4, 4), (3, 5, 5), (2, 6, 6)]);
+        texts.extend([2, 3].map(|e| text(&[above.clone(), task(&[(e, 6)], &[])])));
+    }
+    texts
 }
 
 /// R3's task, below it a vertex that always misses and whose d is the horizon.

@@ -1,4 +1,4 @@
-//! What the generators share: lines of a text, the bench examples, the refusals of a text, cases of one vertex, tables for the writer, and a pseudo-random generator.
+//! What the generators share: lines of a text, the bench examples, the refusals of a text, rings and gear tables, cases of one vertex, tables for the writer, and a pseudo-random generator.
 
 // No generator uses all of it.
 #![allow(dead_code)]
@@ -7,6 +7,8 @@ pub mod bench;
 pub mod broken;
 pub mod drafts;
 pub mod refusals;
+pub mod vendor_refusals;
+pub mod vendors;
 pub mod vertices;
 
 /// The line of a task frame without a masked length.

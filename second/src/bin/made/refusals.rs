@@ -38,7 +38,12 @@ pub fn add(texts: &mut Vec<Vec<u8>>) {
 
 /// The valid lines with one of them, from 1, replaced.
 pub fn with(line: usize, replacement: &str) -> Vec<u8> {
-    let mut lines = LINES;
+    replaced(&LINES, line, replacement)
+}
+
+/// The text of these lines with one of them, from 1, replaced.
+pub fn replaced(lines: &[&str], line: usize, replacement: &str) -> Vec<u8> {
+    let mut lines = lines.to_vec();
     lines[line - 1] = replacement;
     lines.concat().into_bytes()
 }
