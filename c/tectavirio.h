@@ -77,8 +77,8 @@ enum tectavirio_verdict {
     TECTAVIRIO_REFUSED = 3
 };
 
-/* The text check: a refusal from 1 to 7 and its line in one number, both 0 for a readable text. In a text a task may be described as a ring or as a gear
- * table, frame 05 or 07 with a count and that many frames 06; each call takes it as the plain task that it stands for, with m = 0. */
+/* The text check: a refusal from 1 to 7 and its line in one number, both 0 for a readable text. In a text a task may be described as a ring or as a gear table,
+ * frame 05 or 07 with a count and that many frames 06; each call that takes a text takes it as the plain task that it stands for, with m = 0. */
 uint32_t tectavirio_text_check(const uint8_t *text, size_t text_bytes);
 
 /* What the text check's number holds. */
@@ -137,10 +137,10 @@ static inline unsigned tectavirio_judged_refusing(uint64_t judged) { return (uns
  * `out` is unchanged. An `out` shorter than TECTAVIRIO_LONGEST_OUTPUT is left as it is, and the length is 0. */
 size_t tectavirio_desk_output(const uint8_t *text, size_t text_bytes, uint8_t *out, size_t out_bytes);
 
-/* Writes a table that is built in memory as the text that reads as this table, in frames 00 to 04, from the front of `out`. The table is one list of 16-bit cells, task after
- * task, the highest priority first, until the list ends. A task is its number of vertices, its number of edges and its masked length m, 0 for none; then
- * its vertices, e and d each; then its edges, from, to and p each, in order of from and then to, no two with both the same. A table of one task, as 13
- * cells and as the text that is written for them:
+/* Writes a table that is built in memory as the text that reads as this table, in frames 00 to 04, from the front of `out`. The table is one list of 16-bit
+ * cells, task after task, the highest priority first, until the list ends. A task is its number of vertices, its number of edges and its masked length m, 0 for
+ * none; then its vertices, e and d each; then its edges, from, to and p each, in order of from and then to, no two with both the same. A table of one task, as
+ * 13 cells and as the text that is written for them:
  *
  *     2, 2, 3,    0402020003    two vertices, two edges, m = 3; with m = 0 this line is 010202
  *     4, 5,       0200040005    vertex 0: e = 4, d = 5

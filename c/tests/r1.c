@@ -1,5 +1,5 @@
 /* R1 of the bench examples in the document's numbers, as a C host judges it: the third task's vertex misses, after one group, by the paths (0, 0) and
- * (0). The same with its tasks as rings and a gear table of one vertex each, and such lines that are refused. And the empty text, lent as a null pointer:
+ * (0). The same with its tasks as rings and a gear table of one vertex each, and lines of rings and gear tables that are refused. And the empty text, lent as a null pointer:
  * refusal 6, line 1. */
 #include "bench.h"
 #include "tectavirio.h"

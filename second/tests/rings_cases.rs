@@ -102,6 +102,16 @@ fn reader_texts() -> Vec<Vec<u8>> {
     texts_of(CHECK, &sequence)
 }
 
+/// Counts of a ring or a gear table and the row that refuses the line, 0 if none does; the last as a ninth task.
+const COUNTS: [(&str, u8); 6] = [
+    ("00", 3),
+    ("01", 0),
+    ("0c", 0),
+    ("0d", 3),
+    ("ff", 3),
+    ("01", 2),
+];
+
 #[test]
 fn every_refusal_is_among_the_texts_for_the_reader() {
     let mut texts = reader_texts();
@@ -121,15 +131,7 @@ fn every_refusal_is_among_the_texts_for_the_reader() {
         assert!(found, "{line:?} {row}");
     };
     for kind in KINDS {
-        // Also as a ninth task.
-        for (rest, row) in [
-            ("00", 3),
-            ("01", 0),
-            ("0c", 0),
-            ("0d", 3),
-            ("ff", 3),
-            ("01", 2),
-        ] {
+        for (rest, row) in COUNTS {
             check(&format!("{kind}{rest}\n"), row);
         }
         check(&format!("{kind}\n"), 2);

@@ -1,4 +1,4 @@
-// "Writing what was read gives the same bytes."
+// "Writing what was read gives the same bytes", of a text without 05 to 07; rings and gear tables are written as plain tasks.
 //
 // The text's table, written into a marked area, as writing.rt has it, and as often as the header's budget says, so that docs/COST.md can count one writing
 // alone; or the line of the text check for a refused text.

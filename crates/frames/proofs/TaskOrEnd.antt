@@ -10,8 +10,8 @@ use borrow.Author.Tests.{leb-true, leb-false, le-leb, eqb-true, eqb-false, lt-lt
 use Rattle.meaning.specs.Lists.{pick}
 use Rattle.meaning.specs.Bounds.{mostTasks, mostVertices, mostEdges, largestM}
 use Rattle.meaning.specs.Table as Meant
-use Rattle.meaning.specs.Text.{linesOf, Begun, begun, linked, closed, Step, on, over, wrong, within, isFrame, word, taskFrame, ringTo, gearTo, vendorFrame, framed}
-use Rattle.meaning.specs.Text.{Reading, unreadable, atEnd, readFrom}
+use Rattle.meaning.specs.Text.{linesOf, Begun, begun, linked, closed, Step, on, over, wrong, within, isFrame, word, taskFrame, ringTo, gearTo}
+use Rattle.meaning.specs.Text.{vendorFrame, framed, Reading, unreadable, atEnd, readFrom}
 use Rattle.meaning.proofs.Lists.{and-false}
 use Rattle.meaning.proofs.Readable.{readStep}
 use Rattle.kinds.specs.declared.Refusal.the-variants.{WrongFrame, OutOfBounds}
@@ -51,7 +51,7 @@ frameGives (TaskTaken h) n go end = go h
 frameGives EndTaken n go end = end
 frameGives (FrameRefused w) n go end = unreadable (refusalNumber w) n
 
--- the bytes of a task's line
+-- the bytes of a plain task's line
 pub bytes-01 : taskBytes 0 ≡ taskDigits + 1
 unfolding taskBytes
 bytes-01 = refl
@@ -89,7 +89,7 @@ module _ (ts : List Meant.Task) (k : Meant.Task) (n : ℕ) (t : List ℕ) where
   abbrev Gives : TaskOrEndLine → Type 0
   Gives x = readFrom before n (linesOf t) ≡ frameGives x n behind ending
 
-  -- a line of len bytes that starts as a task's of this kind, and says h if `inside`: `step` for its frame, where one more task is allowed
+  -- a line with a frame of len bytes that starts as a task's of this kind, and says h if `inside`: `step` for its frame, where one more task is allowed
   module _ (κ len : ℕ) (inside : Bool) (h : Head) (low : κ < 10) (step : List ℕ → Step) (start : startsWith t (κ + 48) (2 * len) ≡ true)
       (frame : (f r : List ℕ) → Spelled t (κ ∷ f) r
       → framed before 0 0 (κ ∷ f) ≡ pick (isFrame κ len (κ ∷ f) && ltb (length have) mostTasks) (step (κ ∷ f)) (wrong 2))
@@ -241,7 +241,8 @@ module _ (ts : List Meant.Task) (k : Meant.Task) (n : ℕ) (t : List ℕ) where
 
   pub task-or-end-read : Gives (taskOrEndLine (length have) t)
   unfolding taskOrEndLine
-  task-or-end-read = go (startsWith t 49 taskDigits) refl (startsWith t 52 partDigits) refl (startsWith t 53 linkedDigits) refl (startsWith t 55 linkedDigits) refl
+  task-or-end-read =
+      go (startsWith t 49 taskDigits) refl (startsWith t 52 partDigits) refl (startsWith t 53 linkedDigits) refl (startsWith t 55 linkedDigits) refl
     where
       go : (x : Bool) → startsWith t 49 taskDigits ≡ x → (y : Bool) → startsWith t 52 partDigits ≡ y → (u : Bool) → startsWith t 53 linkedDigits ≡ u
           → (w : Bool) → startsWith t 55 linkedDigits ≡ w → Gives (taskOrEndLine (length have) t)
@@ -330,7 +331,8 @@ module _ (k : ℕ) (t : List ℕ) where
 
   pub task-has : (h : Head) → taskOrEndLine k t ≡ TaskTaken h → TaskHas k h t
   unfolding taskOrEndLine taskLine linkedLine
-  task-has h = go (startsWith t 49 taskDigits) refl (startsWith t 52 partDigits) refl (startsWith t 53 linkedDigits) refl (startsWith t 55 linkedDigits) refl
+  task-has h =
+      go (startsWith t 49 taskDigits) refl (startsWith t 52 partDigits) refl (startsWith t 53 linkedDigits) refl (startsWith t 55 linkedDigits) refl
     where
       go : (x : Bool) → startsWith t 49 taskDigits ≡ x → (y : Bool) → startsWith t 52 partDigits ≡ y → (u : Bool) → startsWith t 53 linkedDigits ≡ u
           → (w : Bool) → startsWith t 55 linkedDigits ≡ w → taskOrEndLine k t ≡ TaskTaken h → TaskHas k h t
@@ -356,7 +358,8 @@ module _ (k : ℕ) (t : List ℕ) where
   -- the end's line has two digits and a line feed
   pub end-long : taskOrEndLine k t ≡ EndTaken → endDigits < length t
   unfolding taskOrEndLine
-  end-long = go (startsWith t 49 taskDigits) refl (startsWith t 52 partDigits) refl (startsWith t 53 linkedDigits) refl (startsWith t 55 linkedDigits) refl
+  end-long =
+      go (startsWith t 49 taskDigits) refl (startsWith t 52 partDigits) refl (startsWith t 53 linkedDigits) refl (startsWith t 55 linkedDigits) refl
     where
       go : (x : Bool) → startsWith t 49 taskDigits ≡ x → (y : Bool) → startsWith t 52 partDigits ≡ y → (u : Bool) → startsWith t 53 linkedDigits ≡ u
           → (w : Bool) → startsWith t 55 linkedDigits ≡ w → taskOrEndLine k t ≡ EndTaken → endDigits < length t

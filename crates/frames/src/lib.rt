@@ -55,7 +55,7 @@ pub enum Form {
     Gears,
 }
 
-// What a task's line says of the plain task that it stands for: how many vertices and edges, and the masked length.
+// What a task's line says: how the task is described, and of the plain task how many vertices and edges it has, and its masked length.
 pub struct Head {
     pub form: Form,
     pub v: usize,
@@ -176,7 +176,7 @@ pub fn edge_line(
     EdgeLine::EdgeTaken(edge)
 }
 
-// Of a ring or a gear table.
+// A vertex's line in a ring or a gear table.
 pub fn link_line(w: &[u16; 256], text: &[u8]) -> LinkLine
     requires { ⌜ Worths (now w) ⌝ }
     ensures { λ r. ⌜ r ≡ linkLine (now (text .entry)) ⌝ }
@@ -262,7 +262,8 @@ pub(crate) fn linked_line(w: &[u16; 256], text: &[u8], k: usize, form: Form) -> 
     })
 }
 
-// The line after k whole tasks: another task's, of which "Frame 01 means m = 0; 04 with 0 is refusal 3", or the end's.
+// The line after k whole tasks: another plain task's, of which "Frame 01 means m = 0; 04 with 0 is refusal 3", a ring's (05), a gear table's (07), or the
+// end's.
 pub fn task_or_end_line(w: &[u16; 256], text: &[u8], k: usize) -> TaskOrEndLine
     requires { ⌜ Worths (now w) ⌝ }
     ensures { λ r. ⌜ r ≡ taskOrEndLine k (now (text .entry)) ⌝ }

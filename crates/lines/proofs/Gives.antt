@@ -34,7 +34,7 @@ pub data TaskGives (R : Reading) (ts : List Meant.Task) (l : ℕ) (t : List ℕ)
       → TaskGives R ts l t (tookTask AllTaken n b (taskRecord k))
   task-stopped : (w : Refusal) (i : ℕ) → R ≡ unreadable (refusalNumber w) (suc (l + i)) → TaskGives R ts l t (stoppedTask w i)
 
--- in the text t
+-- how far they reach in the text t
 pub record TaskReach (t : List ℕ) (a : TaskLines) : Type 0 where
   pub few : a .count ≤ mostVertices + mostEdges
   pub room : a .outcome ≡ AllTaken → a .bytes ≤ length t

@@ -1,4 +1,4 @@
--- The lines of a task, its vertices and then its edges, are read as they mean.
+-- The lines of a plain task, its vertices and then its edges, are read as they mean; and those of any task, by its own line.
 use mathlib.Core.Path.{_≡_, refl, sym, ap, subst, _∙_}
 use Prim.Native.Nat.{ℕ, zero, suc, _+_, _-_, _*_, _≤_}
 use native.Mathlib.Omega.{arith}

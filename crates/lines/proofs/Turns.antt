@@ -1,4 +1,4 @@
--- One turn of each loop over a task's lines, and the whole task.
+-- One turn of each loop over a plain task's lines, and the whole plain task.
 use mathlib.Core.Path.{_≡_, sym, ap, subst, _∙_}
 use Prim.Native.Nat.{ℕ, suc, _+_, _-_, _*_, _≤_, _<_}
 use native.Mathlib.Omega.{arith}
@@ -167,6 +167,7 @@ module _ {s : List ℕ} {from v e : ℕ} {m : Ticks} {a : VertexLines} {b : Edge
   unfolding plainLines
   task-edge-stops y = rw (drop-drop (v * partBytes) from s, ← seen .vertices .gives, seen .all, seen .covered, ← seen .gives, y)
 
-  pub task-all : b .outcome ≡ AllTaken → tookTask AllTaken (v + e) ((v + e) * partBytes) (taskCells m v e (a .vertices) (b .edges)) ≡ plainLines v e m (drop from s)
+  pub task-all : b .outcome ≡ AllTaken
+      → tookTask AllTaken (v + e) ((v + e) * partBytes) (taskCells m v e (a .vertices) (b .edges)) ≡ plainLines v e m (drop from s)
   unfolding plainLines
   task-all y = rw (drop-drop (v * partBytes) from s, ← seen .vertices .gives, seen .all, seen .covered, ← seen .gives, y)

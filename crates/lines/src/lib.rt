@@ -201,7 +201,7 @@ pub(crate) fn leads(form: Form, n: usize, i: usize) -> usize
     0
 }
 
-// The only edge of that vertex.
+// The only edge out of vertex i of n, with the separation p.
 pub(crate) fn link_edge(form: Form, n: usize, i: usize, p: Ticks) -> Edge
     requires { ⌜ (i < n) × (n ≤ mostVertices) ⌝ }
     ensures { λ r. ⌜ r ≡ edgeCells i (formTo form n i) (p .0) ⌝ }

@@ -1,5 +1,4 @@
--- What is read is what is written: a readable text is the text of plain tasks, rings and gear tables, and its table is what they stand for; without
--- 05 to 07 its bytes are the table's text.
+-- A readable text is the text of plain tasks, rings and gear tables, and its table is what they stand for; without 05 to 07 its bytes are the table's text.
 use mathlib.Core.Path.{_≡_, refl, sym, ap, ap₂, subst, _∙_}
 use Prim.Native.Nat.{ℕ, zero, suc, _+_, _*_, _/_, _%_, _≤_, _<_}
 use native.Mathlib.Omega.{arith}

@@ -91,7 +91,7 @@ rising-snoc es x r t =
 abbrev pub Leads : (ℕ → ℕ) → ℕ → Type 0
 Leads to n = (i : ℕ) → i < n → to i < n
 
--- in a ring or a gear table, with as many edges as vertices and no masked length
+-- what more a ring or a gear table keeps: as many edges as vertices, each vertex leads to one of the task's, no masked length
 abbrev pub Led : Begun → Option (ℕ → ℕ) → Type 0
 Led s none = Unit {0}
 Led s (some to) = (length (s .edges) ≡ length (s .vertices)) × Leads to (length (s .vertices) + s .wantV) × (s .m ≡ 0)
@@ -293,8 +293,8 @@ ring-leads n i h = go (ltb (suc i) n) refl
 pub gear-leads : (n : ℕ) → Leads (gearTo n) n
 gear-leads n i h = h
 
-pub linked-ok : (n : ℕ) (s : Begun) (to : ℕ → ℕ → ℕ) (v : ℕ) → Leads (to v) v → Closed n (closed s) → length (closed s) < mostTasks → Ok n (vendorFrame s to v)
-linked-ok n s to v leads c h =
+pub vendor-ok : (n : ℕ) (s : Begun) (to : ℕ → ℕ → ℕ) (v : ℕ) → Leads (to v) v → Closed n (closed s) → length (closed s) < mostTasks → Ok n (vendorFrame s to v)
+vendor-ok n s to v leads c h =
     gate-step (Ok n) (within 1 mostVertices v) 3 (on (linked (closed s) (task 0 [] []) (to v) v)) outside
     (λ t.
     let low = leb→le 1 v (both-left (leb 1 v) (leb v mostVertices) t) in

@@ -14,7 +14,8 @@ use Rattle.meaning.specs.Bounds.{mostTasks, mostVertices, mostEdges, lar
 use Rattle.meaning.specs.Table.{Vertex, Edge, Task, Table, vertex, edge, task, noVertex}
 use Rattle.meaning.specs.Text.{line, Line, lineFeed, intoFirst, linesOf, digitOf, byteWith, hexBytes, frameOf, isFrame, word}
 use Rattle.meaning.specs.Text.{Begun, begun, nothing, closed, Step, on, over, wrong, gate, within, taskFrame, maskFits, vertexFrame, afterLast, edgeFrame}
-use Rattle.meaning.specs.Text.{linked, ringTo, gearTo, vendorFrame, linkFrame, wantedVertex, framed, stepAt, Reading, readable, unreadable, atEnd, readFrom, read}
+use Rattle.meaning.specs.Text.{linked, ringTo, gearTo, vendorFrame, linkFrame, wantedVertex, framed}
+use Rattle.meaning.specs.Text.{stepAt, Reading, readable, unreadable, atEnd, readFrom, read}
 use Rattle.meaning.specs.Sound.{SoundTask, AllSound}
 use Rattle.meaning.specs.Texts.{taskLine, vertexLine, edgeLine, longestTask, longestText, taskLength, textLength, LongestText, lastLine}
 use Rattle.meaning.specs.Texts.{TextRefused}
@@ -176,8 +177,8 @@ edge-kept b s f t p h w =
     record { bytes = omega (arith, h .bytes); edges = omega arith; led = tt })))
 
 -- of a ring or a gear table
-linked-kept : (b : ℕ) (s : Begun) (to : ℕ → ℕ → ℕ) (v : ℕ) → b ≤ tasksLength (closed s) → Kept (b + lineLength 2) (vendorFrame s to v)
-linked-kept b s to v h =
+vendor-kept : (b : ℕ) (s : Begun) (to : ℕ → ℕ → ℕ) (v : ℕ) → b ≤ tasksLength (closed s) → Kept (b + lineLength 2) (vendorFrame s to v)
+vendor-kept b s to v h =
     gate-step (Kept (b + lineLength 2)) (within 1 mostVertices v) 3 (on (linked (closed s) (task 0 [] []) (to v) v)) tt
     (λ t. record { bytes = omega (arith, h, leb→le 1 v (both-left (leb 1 v) (leb v mostVertices) t)); edges = omega arith; led = refl })
 
@@ -192,16 +193,16 @@ link-kept b s to e d p h w m =
     (λ t. gate-step (Kept (b + lineLength 7)) (leb d p) 4 end tt
     (λ u. record { bytes = omega (arith, h .bytes, ap taskLine m); edges = omega arith; led = m }))
 
-vertex-framed-kept : (b : ℕ) (s : Begun) (l : Option (ℕ → ℕ)) (f : List ℕ) → BytesSoFar b s → 1 ≤ s .wantV → Led s l
+wanted-kept : (b : ℕ) (s : Begun) (l : Option (ℕ → ℕ)) (f : List ℕ) → BytesSoFar b s → 1 ≤ s .wantV → Led s l
     → Kept (b + lineLength (length f)) (wantedVertex s l f)
-vertex-framed-kept b s none f h w led =
+wanted-kept b s none f h w led =
     framed-as b 2 5 f (isFrame 2 5 f) (λ t. t) (vertexFrame s (word f 1) (word f 3)) (wrong 2) (vertex-kept b s (word f 1) (word f 3) h w) tt
-vertex-framed-kept b s (some to) f h w led =
+wanted-kept b s (some to) f h w led =
     framed-as b 6 7 f (isFrame 6 7 f) (λ t. t) (linkFrame s to (word f 1) (word f 3) (word f 5)) (wrong 2)
     (link-kept b s to (word f 1) (word f 3) (word f 5) h w led) tt
 
 framed-kept : (b : ℕ) (s : Begun) (v e : ℕ) (f : List ℕ) → BytesSoFar b s → s .wantV ≡ v → Kept (b + lineLength (length f)) (framed s v e f)
-framed-kept b s (suc v) e f h w = vertex-framed-kept b s (s .leads) f h (omega arith) (h .led)
+framed-kept b s (suc v) e f h w = wanted-kept b s (s .leads) f h (omega arith) (h .led)
 framed-kept b s zero (suc e) f h w =
     framed-as b 3 5 f (isFrame 3 5 f) (λ t. t) (edgeFrame s (getD f 1 0) (getD f 2 0) (word f 3)) (wrong 2)
     (edge-kept b s (getD f 1 0) (getD f 2 0) (word f 3) h w) tt
@@ -218,9 +219,9 @@ framed-kept b s zero zero f h w =
     (framed-as b 4 5 f (isFrame 4 5 f && few) (both-left (isFrame 4 5 f) few) masked rings
     (task-kept b 5 s (getD f 1 0) (getD f 2 0) 1 (word f 3) (line-04 (word f 3)) all)
     (framed-as b 5 2 f (isFrame 5 2 f && few) (both-left (isFrame 5 2 f) few) (vendorFrame s ringTo (getD f 1 0)) gears
-    (linked-kept b s ringTo (getD f 1 0) all)
+    (vendor-kept b s ringTo (getD f 1 0) all)
     (framed-as b 7 2 f (isFrame 7 2 f && few) (both-left (isFrame 7 2 f) few) (vendorFrame s gearTo (getD f 1 0)) end
-    (linked-kept b s gearTo (getD f 1 0) all)
+    (vendor-kept b s gearTo (getD f 1 0) all)
     (framed-as b 0 1 f (isFrame 0 1 f && some) (both-left (isFrame 0 1 f) some) (over (closed s)) (wrong 2) (omega (arith, all)) tt))))
 
 step-kept : (b m : ℕ) (s : Begun) (o : Option (List ℕ)) → Fits m o → BytesSoFar b s → Kept (b + m) (stepAt s o)

@@ -17,22 +17,22 @@ use Rattle.meaning.specs.Sound.{SoundTable}
 use Rattle.meaning.specs.Texts.{lastLine, ReadableSound}
 use Rattle.meaning.proofs.Lists.{both-right}
 use Rattle.meaning.proofs.FramesKeep.{HeldSoFar, Led, not-here, pick-step, Ok, Closed, closed-held, task-ok, vertex-ok, edge-ok}
-use Rattle.meaning.proofs.FramesKeep.{ring-leads, gear-leads, linked-ok, link-ok}
+use Rattle.meaning.proofs.FramesKeep.{ring-leads, gear-leads, vendor-ok, link-ok}
 
 -- ---- a line, and all lines
 
 over-ok : (n : ℕ) (ts : Table) → Closed n ts → 0 < length ts → Ok n (over ts)
 over-ok n ts c h = (record { someTask = h; taskCount = c .count; eachTask = c .sound }, omega (arith, c .line, c .count))
 
-vertex-framed-ok : (n : ℕ) (s : Begun) (l : Option (ℕ → ℕ)) (f : List ℕ) → HeldSoFar n s → 1 ≤ s .wantV → Led s l → Ok n (wantedVertex s l f)
-vertex-framed-ok n s none f h w led =
+wanted-ok : (n : ℕ) (s : Begun) (l : Option (ℕ → ℕ)) (f : List ℕ) → HeldSoFar n s → 1 ≤ s .wantV → Led s l → Ok n (wantedVertex s l f)
+wanted-ok n s none f h w led =
     pick-step (Ok n) (isFrame 2 5 f) (vertexFrame s (word f 1) (word f 3)) (wrong 2) (λ t. vertex-ok n s (word f 1) (word f 3) h w) not-here
-vertex-framed-ok n s (some to) f h w led =
+wanted-ok n s (some to) f h w led =
     pick-step (Ok n) (isFrame 6 7 f) (linkFrame s to (word f 1) (word f 3) (word f 5)) (wrong 2)
     (λ t. link-ok n s to (word f 1) (word f 3) (word f 5) h w led) not-here
 
 framed-ok : (n : ℕ) (s : Begun) (v e : ℕ) (f : List ℕ) → HeldSoFar n s → s .wantV ≡ v → s .wantE ≡ e → Ok n (framed s v e f)
-framed-ok n s (suc v) e f h p q = vertex-framed-ok n s (s .leads) f h (omega arith) (h .led)
+framed-ok n s (suc v) e f h p q = wanted-ok n s (s .leads) f h (omega arith) (h .led)
 framed-ok n s zero (suc e) f h p q =
     pick-step (Ok n) (isFrame 3 5 f) (edgeFrame s (getD f 1 0) (getD f 2 0) (word f 3)) (wrong 2)
     (λ t. edge-ok n s (getD f 1 0) (getD f 2 0) (word f 3) h p (omega arith)) not-here
@@ -50,9 +50,9 @@ framed-ok n s zero zero f h p q =
     (pick-step (Ok n) (isFrame 4 5 f && few) masked rings
     (λ t. task-ok n s (getD f 1 0) (getD f 2 0) 1 (word f 3) c (one-more (isFrame 4 5 f) t))
     (pick-step (Ok n) (isFrame 5 2 f && few) (vendorFrame s ringTo (getD f 1 0)) gears
-    (λ t. linked-ok n s ringTo (getD f 1 0) (ring-leads (getD f 1 0)) c (one-more (isFrame 5 2 f) t))
+    (λ t. vendor-ok n s ringTo (getD f 1 0) (ring-leads (getD f 1 0)) c (one-more (isFrame 5 2 f) t))
     (pick-step (Ok n) (isFrame 7 2 f && few) (vendorFrame s gearTo (getD f 1 0)) end
-    (λ t. linked-ok n s gearTo (getD f 1 0) (gear-leads (getD f 1 0)) c (one-more (isFrame 7 2 f) t))
+    (λ t. vendor-ok n s gearTo (getD f 1 0) (gear-leads (getD f 1 0)) c (one-more (isFrame 7 2 f) t))
     (pick-step (Ok n) (isFrame 0 1 f && some) (over (closed s)) (wrong 2)
     (λ t. over-ok n (closed s) c (ltb→lt 0 (length (closed s)) (both-right (isFrame 0 1 f) some t))) not-here))))
 

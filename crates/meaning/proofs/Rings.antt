@@ -15,7 +15,7 @@ use Rattle.meaning.specs.Writing.{frameOfEnd}
 use Rattle.meaning.specs.Rings.{Link, linkVertex, edgesFrom, standsFor, SoundLink, Inward, Expands, Expansion}
 use Rattle.meaning.specs.Rings.{Form, plain, ring, gears, taskOf, frameOfLink, framesOfForm, framesOfForms}
 use Rattle.meaning.proofs.Lists.{length-snoc, each-map}
-use Rattle.meaning.proofs.FramesKeep.{HeldSoFar, Ok, Closed, within-true, ring-leads, gear-leads, linked-ok}
+use Rattle.meaning.proofs.FramesKeep.{HeldSoFar, Ok, Closed, within-true, ring-leads, gear-leads, vendor-ok}
 use Rattle.meaning.proofs.Readable.{framesStep, step-frames, Good, from-good, linked-whole}
 use Rattle.meaning.proofs.FrameLines.{Framed, AllFramed}
 use Rattle.meaning.proofs.FramesBack.{two-word}
@@ -100,7 +100,7 @@ as-many to i (x ∷ xs) = ap suc (as-many to (suc i) xs)
 first-held : (to : ℕ → ℕ → ℕ) (v : ℕ) → Inward to → 1 ≤ v → v ≤ mostVertices → HeldSoFar 2 (linked [] (task 0 [] []) (to v) v)
 first-held to v inward a b =
     let none : Closed 1 [] = record { sound = λ x m. absurd (List·Memᴰ·not-nil m); line = omega arith; count = omega arith } in
-    subst (Ok 1) (head-step nothing to v a b) (linked-ok 1 nothing to v (inward v) none (omega arith))
+    subst (Ok 1) (head-step nothing to v a b) (vendor-ok 1 nothing to v (inward v) none (omega arith))
 
 end-read : (to : ℕ → ℕ → ℕ) (xs : List Link) (n : ℕ) → 1 ≤ length xs
     → framesFrom some (linked [] (standsFor to xs) (to (length xs)) 0) n (frameOfEnd ∷ []) ≡ readable (standsFor to xs ∷ [])

@@ -142,9 +142,9 @@ edgeFrame s from to p =
     (gate (afterLast (s .edges) (edge from to p)) 5
     (on (begun (s .tasks) (task (s .m) (s .vertices) (s .edges ++ (edge from to p ∷ []))) 0 (s .wantE - 1)))))
 
--- ---- rings and gear tables: where vertex i of n leads
+-- ---- rings and gear tables
 
--- "a cycle in which each vertex leads to the next and the last to the first"
+-- where vertex i of n leads: "a cycle in which each vertex leads to the next and the last to the first"
 abbrev pub ringTo : ℕ → ℕ → ℕ
 ringTo n i = pick (ltb (suc i) n) (suc i) 0
 
@@ -157,7 +157,8 @@ gearTo n i = i
 abbrev pub vendorFrame : Begun → (ℕ → ℕ → ℕ) → ℕ → Step
 vendorFrame s to n = gate (within 1 mostVertices n) 3 (on (linked (closed s) (task 0 [] []) (to n) n))
 
--- "and that many frames 06 e d p", of 2 bytes each: the next vertex, and the only edge out of it, with its own p. In this order no edge can come too early.
+-- "and that many frames 06 e d p", of 2 bytes each: the next vertex, and the only edge out of it, with its own p. The edges come in order of their start,
+-- so that 5 can't occur.
 abbrev pub linkFrame : Begun → (ℕ → ℕ) → ℕ → ℕ → ℕ → Step
 linkFrame s to e d p =
     let i = length (s .vertices) in

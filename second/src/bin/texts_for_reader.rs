@@ -1,6 +1,7 @@
 //! Writes the texts that the reader is checked with: a sequence as `second cases` reads it.
 //!
-//! Every refusal of a text, each bound and one past it, and random texts, whole and damaged, most with a masked length, and most with a ring or a gear table. The sequence is the same from run to run.
+//! Every refusal of a text, each bound and one past it, and random texts, whole and damaged, most with a masked length, and most with a ring or a gear
+//! table. The sequence is the same from run to run.
 
 #![forbid(unsafe_code)]
 

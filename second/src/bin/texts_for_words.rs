@@ -1,6 +1,7 @@
 //! Writes the texts that the words for people are checked with, each to a file of its own in the folder that the argument names.
 //!
-//! The bench examples, faulty lines of every kind, each verdict, masked time, rings and gear tables, and random tables, most with a masked length, and most with a ring or a gear table. The texts are the same from run to run.
+//! The bench examples, faulty lines of every kind, each verdict, masked time, rings and gear tables, and random tables, most with a masked length, and most
+//! with a ring or a gear table. The texts are the same from run to run.
 
 #![forbid(unsafe_code)]
 

@@ -1,4 +1,5 @@
-//! What the generators share: lines of a text, the bench examples, the refusals of a text, rings and gear tables, cases of one vertex, tables for the writer, and a pseudo-random generator.
+//! What the generators share: lines of a text, the bench examples, the refusals of a text, rings and gear tables, cases of one vertex, tables for the
+//! writer, and a pseudo-random generator.
 
 // No generator uses all of it.
 #![allow(dead_code)]

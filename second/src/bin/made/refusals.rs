@@ -108,7 +108,7 @@ fn frames(texts: &mut Vec<Vec<u8>>) {
     }
 }
 
-/// Refusal 2: a ninth task of either kind, whatever its length and its numbers.
+/// Refusal 2: a ninth task, with or without a masked length, whatever its length and its numbers.
 fn ninth_tasks(texts: &mut Vec<Vec<u8>>) {
     let eight = task(&[(1, 1)], &[]).repeat(8);
     for ninth in ["", "00\n", "010100\n", "01\n", "010000\n", "01ffff\n"] {
