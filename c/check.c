@@ -21,6 +21,7 @@ static const char *row_of(unsigned number) {
     case TECTAVIRIO_EDGE_NOT_AFTER: return "the edge doesn't come after the one before it in its task";
     case TECTAVIRIO_NO_END: return "the text ends and no end frame was read";
     case TECTAVIRIO_BYTES_AFTER_END: return "there are bytes after the end frame";
+    case TECTAVIRIO_JOB_OVER_DEADLINE: return "the job is longer than its own deadline";
     default: return NULL;
     }
 }

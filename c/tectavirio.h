@@ -52,7 +52,7 @@
 extern "C" {
 #endif
 
-/* The refusal sheet's numbers. Each is returned with a place: the line, counted from 1 (1 to 7), zero (8, 12), the task (9), the cells needed (10, 11),
+/* The refusal sheet's numbers. Each is returned with a place: the line, counted from 1 (1 to 7, 13), zero (8, 12), the task (9), the cells needed (10, 11),
  * or the bytes needed for a text that is to be written (10). */
 enum tectavirio_refusal {
     TECTAVIRIO_BAD_LINE = 1,
@@ -66,7 +66,8 @@ enum tectavirio_refusal {
     TECTAVIRIO_TOO_MANY_PATHS = 9,
     TECTAVIRIO_WORK_TOO_SHORT = 10, /* or the area of a text that is to be written */
     TECTAVIRIO_WITNESS_TOO_SHORT = 11,
-    TECTAVIRIO_INPUT_TOO_LONG = 12 /* the desk program's alone */
+    TECTAVIRIO_INPUT_TOO_LONG = 12, /* the desk program's alone */
+    TECTAVIRIO_JOB_OVER_DEADLINE = 13 /* a vertex's e, without masked time, is above its own d, at its line; after 3, before 4 and before m's 3 */
 };
 
 /* A verdict's number. */
@@ -77,8 +78,8 @@ enum tectavirio_verdict {
     TECTAVIRIO_REFUSED = 3
 };
 
-/* The text check: a refusal from 1 to 7 and its line in one number, both 0 for a readable text. In a text a task may be described as a ring or as a gear table,
- * frame 05 or 07 with a count and that many frames 06; each call that takes a text takes it as the plain task that it stands for, with m = 0. */
+/* The text check: a refusal, 1 to 7 or 13, and its line in one number, both 0 for a readable text. In a text a task may be described as a ring or as a gear
+ * table, frame 05 or 07 with a count and that many frames 06; each call that takes a text takes it as the plain task that it stands for, with m = 0. */
 uint32_t tectavirio_text_check(const uint8_t *text, size_t text_bytes);
 
 /* What the text check's number holds. */
@@ -92,11 +93,11 @@ uint32_t text_check(const uint8_t *text, size_t text_bytes);
 /* Judges one vertex of the text's table and gives its verdict's number. Task, vertex and budget are any numbers from 0 to 4,294,967,295. A lower task
  * that masks interrupts holds the job up: it is judged by e + B, B being the largest masked length m among lower tasks, 0 if none.
  *
- *   verdict      *value                          *place
- *   meets        C, the groups examined          0
- *   misses       C                               the witness cells written
- *   unfinished   the budget                      0
- *   refused      the refusal's number, 1 to 11   what is returned with it
+ *   verdict      *value                                *place
+ *   meets        C, the groups examined                0
+ *   misses       C                                     the witness cells written
+ *   unfinished   the budget                            0
+ *   refused      the refusal's number, 1 to 11 or 13   what is returned with it
  *
  * The work area needs d times the sum over higher tasks of (2 x paths - 1) cells. After meets, misses and unfinished the needed cells, from the front,
  * are zero and the rest unchanged. The witness area needs h x (1 + d) cells, h being the number of higher tasks. On a miss its front holds, per
@@ -108,11 +109,11 @@ uint8_t tectavirio_judge(const uint8_t *text, size_t text_bytes, uint32_t task, 
 /* Judges one vertex like tectavirio_judge, and says how late its latest is. For a choice of paths, one for each higher task, the finish is the first t
  * from 1 to d at which e + B plus the loads is at most t; the worst finish is the largest over all choices.
  *
- *   verdict      *value                          *place                       *finish
- *   meets        C, the groups examined          the witness cells written    the worst finish, in ticks
- *   misses       C                               the witness cells written    0
- *   unfinished   the budget                      0                            0
- *   refused      the refusal's number, 1 to 11   what is returned with it     0
+ *   verdict      *value                                *place                       *finish
+ *   meets        C, the groups examined                the witness cells written    the worst finish, in ticks
+ *   misses       C                                     the witness cells written    0
+ *   unfinished   the budget                            0                            0
+ *   refused      the refusal's number, 1 to 11 or 13   what is returned with it     0
  *
  * C is that of this call's walk, in which a group is passed over when its own finish is no later than that of some single choice before it. On a meets
  * the front of the witness area holds the first choice that reaches the worst finish, in the same layout. All else is as above. */
@@ -120,7 +121,7 @@ uint8_t tectavirio_latest(const uint8_t *text, size_t text_bytes, uint32_t task,
                           uint16_t *witness, size_t witness_cells, uint32_t *value, uint32_t *place, uint32_t *finish);
 
 /* Judges a whole table, with the budget given afresh to each vertex. A readable text gives how many vertices meet, miss, are unfinished and are refused
- * by 9 or 10. A refused text gives its refusal, from 1 to 7, and its line, and nothing is changed. Zeroed from the front are as many work cells as the
+ * by 9 or 10. A refused text gives its refusal, 1 to 7 or 13, and its line, and nothing is changed. Zeroed from the front are as many work cells as the
  * largest need among vertices not refused. */
 uint64_t tectavirio_judge_table(const uint8_t *text, size_t text_bytes, uint32_t budget, uint32_t *work, size_t work_cells);
 
@@ -159,13 +160,14 @@ size_t tectavirio_desk_output(const uint8_t *text, size_t text_bytes, uint8_t *o
  *   2         line 1, the ninth's line     there is no task; there are more than eight
  *   3         the task's line              0 vertices or more than 12, more than 32 edges, or m above 1,000
  *   3         the vertex's line            e or d is outside its bounds
+ *   13        the vertex's line            e is above d
  *   3         the last vertex's line       m is above the task's largest e
  *   3         the edge's line              the task hasn't the vertex from or to, or p is outside its bounds
  *   4         the edge's line              d of the vertex from is above p
  *   5         the edge's line              the edge doesn't come after the one before it in its task
  *   10        the bytes needed             no rule is broken, and `out` is shorter than the text
  *
- * A line is the one that the frame would have in the text, counted from 1; the first at fault decides, and in one line 3 goes before 4, 4 before 5. An
+ * A line is the one that the frame would have in the text, counted from 1; the first at fault decides, and in one line what stands above goes first. An
  * `out` of TECTAVIRIO_LONGEST_TEXT bytes is never too short. */
 uint64_t tectavirio_write(const uint16_t *cells, size_t cell_count, uint8_t *out, size_t out_bytes);
 

@@ -1,6 +1,6 @@
 /* R1 of the bench examples in the document's numbers, as a C host judges it: the third task's vertex misses, after one group, by the paths (0, 0) and
- * (0). The same with its tasks as rings and a gear table of one vertex each, and lines of rings and gear tables that are refused. And the empty text, lent as a null pointer:
- * refusal 6, line 1. */
+ * (0). The same with its tasks as rings and a gear table of one vertex each, and lines of rings and gear tables that are refused; R4, which is refused,
+ * too. And the empty text, lent as a null pointer: refusal 6, line 1. */
 #include "bench.h"
 #include "tectavirio.h"
 
@@ -48,6 +48,16 @@ static void refuse_vendors_lines(void) {
     refuse(plain, sizeof plain - 1, TECTAVIRIO_WRONG_FRAME, 2);
 }
 
+/* R4: "refusal 13, line 2"; and in a vendor's line, before 4, which d 8 with p 7 would get. */
+static void refuse_slips(void) {
+    static const char r4[] = "010100\n0200030002\n00\n", ring[] = "0501\n06000900080007\n00\n";
+    refuse(r4, sizeof r4 - 1, TECTAVIRIO_JOB_OVER_DEADLINE, 2);
+    refuse(ring, sizeof ring - 1, TECTAVIRIO_JOB_OVER_DEADLINE, 2);
+    uint64_t judged = tectavirio_judge_table((const uint8_t *)r4, sizeof r4 - 1, BUDGET, NULL, 0);
+    expect("R4's refusal", tectavirio_judged_refusal(judged), TECTAVIRIO_JOB_OVER_DEADLINE);
+    expect("R4's line", tectavirio_judged_line(judged), 2);
+}
+
 static void judge_nothing(void) {
     uint32_t number, line;
     expect("no text's verdict", tectavirio_judge(NULL, 0, 0, 0, BUDGET, NULL, 0, NULL, 0, &number, &line), TECTAVIRIO_REFUSED);
@@ -65,6 +75,7 @@ int main(void) {
     judge_r1(R1, sizeof R1 - 1);
     judge_r1(VENDORS_R1, sizeof VENDORS_R1 - 1);
     refuse_vendors_lines();
+    refuse_slips();
     judge_nothing();
     return wrong;
 }

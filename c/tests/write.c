@@ -53,7 +53,7 @@ static void expect_refused(struct table t, size_t bytes, unsigned refusal, unsig
     expect_area(NULL, 0);
 }
 
-/* "A table that breaks a rule gets 2 to 5 [..]; then 10": in an area of any length. */
+/* "A table that breaks a rule gets 2 to 5", or 13 by wish 6, "then 10": in an area of any length. */
 static void expect_broken(struct table t, unsigned refusal, unsigned line) {
     expect_refused(t, 0, refusal, line);
     expect_refused(t, TECTAVIRIO_LONGEST_TEXT, refusal, line);
@@ -142,28 +142,33 @@ static void expect_changed(struct table t, unsigned refusal, const struct change
 
 /* R1's second task has the cells 8 to 15: line 4 is the task's, 5 its vertex's (e 2, d 7), 6 its edge's (from 0 to 0, p 7). In turn: 0, 13 and 257 vertices;
  * 33 and 257 edges; m beyond 1,000; m above e, at its last vertex's line; e and d; then from, to and p, 256 being 0 in its low byte. A d of 8 is above p,
- * and 7 is above a p of 6. */
+ * and 7 is above a p of 6. An e of 8 is above d, and so is 1,000, which is in its bounds; 2 is above a d of 1. */
 static void change_r1(void) {
     static const struct change outside[] = {
         {8, 0, 4},     {8, 13, 4}, {8, 257, 4},  {9, 33, 4}, {9, 257, 4},  {10, 1001, 4}, {10, 65535, 4}, {10, 3, 5}, {10, 1000, 5}, {11, 0, 5},
         {11, 1001, 5}, {12, 0, 5}, {12, 201, 5}, {13, 1, 6}, {13, 256, 6}, {14, 1, 6},    {14, 256, 6},   {15, 0, 6}, {15, 1001, 6},
     };
-    static const struct change over[] = {{12, 8, 6}, {15, 6, 6}};
+    static const struct change over[] = {{12, 8, 6}, {15, 6, 6}}, slips[] = {{11, 8, 5}, {11, 1000, 5}, {12, 1, 5}};
     expect_changed(r1, TECTAVIRIO_OUT_OF_BOUNDS, outside, sizeof outside / sizeof *outside);
     expect_changed(r1, TECTAVIRIO_DEADLINE_OVER_SEPARATION, over, sizeof over / sizeof *over);
+    expect_changed(r1, TECTAVIRIO_JOB_OVER_DEADLINE, slips, sizeof slips / sizeof *slips);
 }
 
 /* The pair's largest e is vertex 0's, 4. An m of 5, or an e of 2 there under the m of 3, is refused at the last vertex's line, 3. The edges (0, 1) and (1, 0)
  * are in order; at line 5 (0, 0) doesn't come after (0, 1), nor (1, 0) after (1, 1), nor (0, 1) after itself. In line 5 a p of 8 is below vertex 1's d. In
- * one line 3 goes before 4 and 4 before 5: of (0, 0) with a p of 0, and of 4, which is below vertex 0's d, the order is the last thing to be refused. */
+ * one line 3 goes before 4 and 4 before 5: of (0, 0) with a p of 0, and of 4, which is below vertex 0's d, the order is the last thing to be refused. With
+ * an e of 10 vertex 1, line 3, is longer than its deadline of 9, also where its task's m of 11 is above every e. */
 static void change_pair(void) {
-    static const struct change outside[] = {{2, 5, 3}, {3, 2, 3}, {10, 2, 5}}, over[] = {{12, 8, 5}}, order[] = {{10, 0, 5}};
+    static const struct change outside[] = {{2, 5, 3}, {3, 2, 3}, {10, 2, 5}}, over[] = {{12, 8, 5}}, order[] = {{10, 0, 5}}, slips[] = {{5, 10, 3}};
     static const uint16_t falling[] = {2, 2, 3, 4, 5, 2, 9, 1, 1, 9, 1, 0, 9}, twice[] = {2, 2, 3, 4, 5, 2, 9, 0, 1, 7, 0, 1, 7};
     static const uint16_t three[] = {2, 2, 3, 4, 5, 2, 9, 0, 1, 7, 0, 0, 0}, four[] = {2, 2, 3, 4, 5, 2, 9, 0, 1, 7, 0, 0, 4};
+    static const uint16_t masked[] = {2, 2, 11, 4, 5, 10, 9, 0, 1, 7, 1, 0, 9};
     expect_written(pair, PAIR, sizeof PAIR - 1);
     expect_changed(pair, TECTAVIRIO_OUT_OF_BOUNDS, outside, 3);
     expect_changed(pair, TECTAVIRIO_DEADLINE_OVER_SEPARATION, over, 1);
     expect_changed(pair, TECTAVIRIO_EDGE_NOT_AFTER, order, 1);
+    expect_changed(pair, TECTAVIRIO_JOB_OVER_DEADLINE, slips, 1);
+    expect_broken((struct table){masked, 13}, TECTAVIRIO_JOB_OVER_DEADLINE, 3);
     expect_broken((struct table){falling, 13}, TECTAVIRIO_EDGE_NOT_AFTER, 5);
     expect_broken((struct table){twice, 13}, TECTAVIRIO_EDGE_NOT_AFTER, 5);
     expect_broken((struct table){three, 13}, TECTAVIRIO_OUT_OF_BOUNDS, 5);
@@ -185,17 +190,17 @@ static void cut_r1(void) {
     expect_broken((struct table){R1_CELLS, 1}, TECTAVIRIO_OUT_OF_BOUNDS, 2);
 }
 
-/* "The longest text is now 3,963 bytes": eight tasks with 12 vertices, 32 edges and a masked length, here with every number at its largest. A task has
- * 3 + 12 x 2 + 32 x 3 = 123 cells and 1 + 12 + 32 = 45 lines. */
+/* "The longest text is now 3,963 bytes": eight tasks with 12 vertices, 32 edges and a masked length, here with every number as large as a written
+ * table can have it: no e, and so no m, is above the largest d. A task has 3 + 12 x 2 + 32 x 3 = 123 cells and 1 + 12 + 32 = 45 lines. */
 static struct table fill_longest(char *text, size_t *length) {
     static uint16_t cells[8 * 123];
     uint16_t *next = cells;
     for (int task = 0; task < 8; task++) {
-        *next++ = 12, *next++ = 32, *next++ = 1000;
-        *length += (size_t)sprintf(text + *length, "040c2003e8\n");
+        *next++ = 12, *next++ = 32, *next++ = 200;
+        *length += (size_t)sprintf(text + *length, "040c2000c8\n");
         for (int v = 0; v < 12; v++) {
-            *next++ = 1000, *next++ = 200;
-            *length += (size_t)sprintf(text + *length, "0203e800c8\n");
+            *next++ = 200, *next++ = 200;
+            *length += (size_t)sprintf(text + *length, "0200c800c8\n");
         }
         for (int e = 0; e < 32; e++) {
             *next++ = (uint16_t)(e / 12), *next++ = (uint16_t)(e % 12), *next++ = 1000;
@@ -213,7 +218,7 @@ static void write_longest(void) {
     static char text[3963 + 1];
     static const struct change outside[] = {{861, 13, 316},  {862, 33, 316}, {863, 1001, 316}, {886, 1001, 328}, {887, 201, 328},
                                             {981, 256, 360}, {981, 12, 360}, {982, 12, 360},   {983, 1001, 360}};
-    static const struct change over[] = {{983, 199, 360}}, order[] = {{981, 1, 360}, {982, 6, 360}};
+    static const struct change over[] = {{983, 199, 360}}, order[] = {{981, 1, 360}, {982, 6, 360}}, slips[] = {{886, 201, 328}, {887, 199, 328}};
     size_t length = 0;
     struct table longest = fill_longest(text, &length);
     expect("the longest text's bytes", length, 3963);
@@ -224,6 +229,7 @@ static void write_longest(void) {
     expect_changed(longest, TECTAVIRIO_OUT_OF_BOUNDS, outside, sizeof outside / sizeof *outside);
     expect_changed(longest, TECTAVIRIO_DEADLINE_OVER_SEPARATION, over, 1);
     expect_changed(longest, TECTAVIRIO_EDGE_NOT_AFTER, order, 2);
+    expect_changed(longest, TECTAVIRIO_JOB_OVER_DEADLINE, slips, 2);
 }
 
 int main(void) {

@@ -87,7 +87,7 @@ impl Counts {
     }
 }
 
-/// Judges one vertex of the text's table; refusals 1 to 11.
+/// Judges one vertex of the text's table; refusals 1 to 11 and 13.
 pub fn judge(
     text: &[u8],
     task: TaskNo,
@@ -102,7 +102,7 @@ pub fn judge(
     }
 }
 
-/// Judges every vertex of the text's table, each with the budget afresh; refusals 1 to 7.
+/// Judges every vertex of the text's table, each with the budget afresh; refusals 1 to 7 and 13.
 pub fn judge_table(text: &[u8], budget: u32, work: &mut [u32]) -> Result<Counts, Refusal> {
     let table = text::read(text)?;
     let mut counts = Counts::default();

@@ -62,7 +62,7 @@ impl Lateness {
     }
 }
 
-/// Judges one vertex of the text's table, and gives its worst finish if it meets; refusals 1 to 11.
+/// Judges one vertex of the text's table, and gives its worst finish if it meets; refusals 1 to 11 and 13.
 pub fn latest(
     text: &[u8],
     task: TaskNo,

@@ -27,6 +27,8 @@ pub enum Row {
     WitnessArea = 11,
     /// Program only: the input is too long.
     LongInput = 12,
+    /// A job longer than its own deadline (wish 6): "when e exceeds d, after 3, before 4 and before wish 3's test of m".
+    LongJob = 13,
 }
 
 /// A refusal: its row and what is returned with it.

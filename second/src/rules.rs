@@ -1,4 +1,4 @@
-//! The rules of a table's lines, rows 2 to 5 of the refusal sheet, which hold for a text that is read and for a table that is written.
+//! The rules of a table's lines, rows 2 to 5 and 13 of the refusal sheet, which hold for a text that is read and for a table that is written.
 
 use crate::bounds::{D, E, EDGES, M, P, TASKS, VERTICES};
 use crate::record::{EdgeRecord, VertexRecord};
@@ -32,12 +32,31 @@ pub(crate) fn masked_length(m: Ticks) -> Kept {
     keeps(are_within(m, &M), Row::Number)
 }
 
-/// A vertex's line: its e and d.
+/// A vertex's line: its numbers, then its e against its d.
 pub(crate) fn vertex(vertex: VertexRecord) -> Kept {
+    vertex_numbers(vertex)?;
+    own_deadline(vertex)
+}
+
+/// The line of a vertex with a separation: its numbers, then its e against its d, then its d against its p.
+pub(crate) fn vendor_vertex(vertex: VertexRecord, p: Ticks) -> Kept {
+    vertex_numbers(vertex)?;
+    separation(p)?;
+    own_deadline(vertex)?;
+    start_deadline(vertex.d, p)
+}
+
+/// The bounds of a vertex's e and d.
+fn vertex_numbers(vertex: VertexRecord) -> Kept {
     keeps(
         are_within(vertex.e, &E) && are_within(vertex.d, &D),
         Row::Number,
     )
+}
+
+/// "A job longer than its own deadline is a typing slip" (wish 6): e doesn't exceed d. "Masked time isn't counted here."
+fn own_deadline(vertex: VertexRecord) -> Kept {
+    keeps(vertex.e <= vertex.d, Row::LongJob)
 }
 
 /// The last vertex's line, after its own rules: m doesn't exceed the largest e of its task.
@@ -53,14 +72,19 @@ pub(crate) fn edge(
 ) -> Kept {
     let start_d = d(edge.from).ok_or(Row::Number)?;
     d(edge.to).ok_or(Row::Number)?;
-    separation(edge.p, start_d)?;
+    separation(edge.p)?;
+    start_deadline(start_d, edge.p)?;
     let is_after = |before: EdgeRecord| (before.from, before.to) < (edge.from, edge.to);
     keeps(before.is_none_or(is_after), Row::EdgeOrder)
 }
 
-/// The line that has an edge's p: its bounds, then d of the vertex that the edge starts from.
-pub(crate) fn separation(p: Ticks, start_d: Ticks) -> Kept {
-    keeps(are_within(p, &P), Row::Number)?;
+/// The bounds of an edge's p.
+fn separation(p: Ticks) -> Kept {
+    keeps(are_within(p, &P), Row::Number)
+}
+
+/// d of the vertex that an edge starts from doesn't exceed the edge's p.
+fn start_deadline(start_d: Ticks, p: Ticks) -> Kept {
     keeps(start_d <= p, Row::Deadline)
 }
 

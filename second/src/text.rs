@@ -1,4 +1,4 @@
-//! Reading a text into a table, or into one of the refusals 1 to 7.
+//! Reading a text into a table, or into one of the refusals 1 to 7 and 13.
 
 use crate::bounds::{EDGE_FRAME, END_FRAME, MASKED_TASK_FRAME, TASK_FRAME, VERTEX_FRAME};
 use crate::bounds::{GEAR_TABLE_FRAME, RING_FRAME, VENDOR_VERTEX_FRAME};
@@ -112,8 +112,7 @@ fn read_vendor_vertex(lines: &mut Lines, to: VertexNo) -> Result<Vertex, Refusal
     };
     let [e, d] = [ticks(e_high, e_low), ticks(d_high, d_low)];
     let p = ticks(p_high, p_low);
-    lines.keep(rules::vertex(VertexRecord { e, d }))?;
-    lines.keep(rules::separation(p, d))?;
+    lines.keep(rules::vendor_vertex(VertexRecord { e, d }, p))?;
     let edges = vec![Edge { to, p }];
     Ok(Vertex { e, d, edges })
 }

@@ -70,6 +70,7 @@ fn refused(refusal: &Refusal) -> String {
             format!(": {place} witness cells are needed and there are {WITNESS_CELLS}")
         }
         Row::LongInput => format!(": the input is longer than {INPUT_BYTES} bytes"),
+        Row::LongJob => at_line("the job is longer than its own deadline"),
     };
     format!("REFUSED ({number}){row}")
 }
@@ -122,7 +123,7 @@ fn table_words(table: &Table, why: bool) -> String {
                 meets_line(vertex, count, &lateness, &masked) + &cause
             }
             Verdict::Misses { count, .. } => {
-                misses_line(table, task, vertex, count) + &miss_words(table, task, vertex, &witness)
+                misses_line(task, vertex, count) + &miss_words(table, task, vertex, &witness)
             }
             Verdict::Unfinished { budget } => unfinished_line(budget),
             Verdict::Refused(refusal) => refused(&refusal) + ", so this was not judged\n",
@@ -155,12 +156,11 @@ fn cause_words(table: &Table, task: TaskNo, witness: &[u16]) -> String {
     }
 }
 
-/// The line of a vertex that misses.
-fn misses_line(table: &Table, task: TaskNo, vertex: &Vertex, count: u32) -> String {
+/// The line of a vertex that misses. No job is longer than its deadline, so that with nothing above it masked time makes it late.
+fn misses_line(task: TaskNo, vertex: &Vertex, count: u32) -> String {
     let (d, groups) = (ticks(vertex.d.0), number_of(count, "group"));
-    let cause = match (task, table.masked_time(task)) {
-        (TaskNo(0), Ticks(0)) => " with no other task's help",
-        (TaskNo(0), _) => NOTHING_ABOVE,
+    let cause = match task {
+        TaskNo(0) => NOTHING_ABOVE,
         _ => ", shown by these releases",
     };
     format!("MISSES its deadline of {d} ({groups} examined){cause}:\n")

@@ -1,4 +1,4 @@
-//! Writing a table as a text (wish 4), or one of the refusals 2 to 5 and 10.
+//! Writing a table as a text (wish 4), or one of the refusals 2 to 5, 13 and 10.
 //!
 //! A table doesn't say which of its tasks were read from a ring or a gear table (wish 5), so that none is written as one.
 

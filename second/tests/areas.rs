@@ -92,7 +92,11 @@ fn refusals_come_before_the_budget() {
 
 #[test]
 fn no_higher_task_needs_no_cells() {
-    let tasks = [task(&[(3, 2), (2, 2)], &[])];
+    // One tick below them is masked: 2 + 1 and 1 + 1.
+    let tasks = [
+        task(&[(2, 2), (1, 2)], &[]),
+        masked(1, task(&[(1, 9)], &[])),
+    ];
     for cells in [0, 1, 9] {
         let lent = (cells, cells);
         let unchanged = |verdict| (verdict, work_area(cells), witness_area(cells));

@@ -1,4 +1,4 @@
-//! The bench examples R1 to R11 of document 01, R2 with a masked length, and a few tables worked out by hand.
+//! The bench examples R1 to R11 of document 01, R4 as wish 6 has it, R2 with a masked length, and a few tables worked out by hand.
 
 use crate::common::{self, *};
 use second::desk;
@@ -76,21 +76,25 @@ fn r3_a_release_at_the_horizon_is_not_in_the_path() {
 }
 
 #[test]
-fn r4_nothing_above() {
+fn r4_is_a_typing_slip() {
     let text = text(&[task(&[(3, 2)], &[])]);
-    let misses = Verdict::Misses { count: 1, cells: 0 };
-    assert_eq!(judged(&text, (0, 0), 1, (0, 0)), misses);
-    assert_eq!(
-        desk::output(text.as_bytes()),
-        "1000000100000001\n1f00010000\n"
-    );
+    for lent in [(0, 0), PLENTY] {
+        let verdict = judged(&text, (0, 0), 1, lent);
+        assert_eq!(refusal(verdict), Some((13, 2)));
+    }
+    assert_eq!(desk::output(text.as_bytes()), "1e0d0002\n");
 }
 
 #[test]
-fn nothing_above_misses_exactly_if_e_exceeds_d() {
-    let text = text(&[task(&[(4, 5), (5, 5), (6, 5)], &[])]);
-    let output = "1000000000000001\n1000010000000001\n1000020100000001\n1f02010000\n";
-    assert_eq!(desk::output(text.as_bytes()), output);
+fn nothing_above_misses_exactly_if_e_and_masked_time_exceed_d() {
+    let first = task(&[(4, 5), (5, 5)], &[]);
+    let alone = "1000000000000001\n1000010000000001\n1f02000000\n";
+    let output = desk::output(text(std::slice::from_ref(&first)).as_bytes());
+    assert_eq!(output, alone);
+    // 4 + 1 and 5 + 1; below them 1 + 5 by tick 6.
+    let held_up = "1000000000000001\n1000010100000001\n1001000000000001\n1f02010000\n";
+    let output = desk::output(text(&[first, masking()]).as_bytes());
+    assert_eq!(output, held_up);
 }
 
 #[test]

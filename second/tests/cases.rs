@@ -55,12 +55,12 @@ fn bench() -> Vec<String> {
         misses(1, 6 * (1 + 1), &[2, 0, 0, 1, 0]),
         // R2
         meets(1, 6 * (1 + 1)),
-        // R3, below it a vertex that always misses: horizon 5 has path (0), horizon 6 has (0,0).
+        // R3, below it a vertex that misses: horizon 5 has path (0), horizon 6 has (0,0).
         misses(1, 5, &[1, 0]),
         misses(1, 6, &[2, 0, 0]),
         // R4, with cells to spare and with none
-        misses(1, 0, &[]),
-        misses(1, 0, &[]),
+        refused(13, 2),
+        refused(13, 2),
         // R5, R6
         meets(1, 5 * 3),
         misses(3, 4 * 3, &[1, 1]),
@@ -97,17 +97,21 @@ fn masked() -> Vec<String> {
         meets(1, 12),
         misses(1, 18, &above),
         misses(1, 18, &above),
-        // Nothing above: 1 + 2, 3 + 2 and 4 + 2 by tick 5; 1,000 + 1,000 by tick 200.
+        // Nothing above: 1 + 2, 3 + 2, 4 + 2 and 5 + 2 by tick 5; 1 + 199, 1 + 200 and 200 + 200 by tick 200.
         meets(1, 0),
+        meets(1, 0),
+        misses(1, 0, &[]),
+        misses(1, 0, &[]),
         meets(1, 0),
         misses(1, 0, &[]),
         misses(1, 0, &[]),
     ];
     // Eight tasks of one path, each of which masks all its e: at most 21 by tick 50.
     lines.extend((0..8).map(|higher| meets(1, 50 * higher)));
-    // R5 and R6 with one of the judged 2 ticks masked.
+    // R5 and R6 with one of the judged 2 ticks masked; and 4 + 2 by tick 5, which every path overloads.
     lines.extend([unfinished(0, 15), meets(1, 15)]);
     lines.extend([unfinished(2, 12), misses(3, 12, &[1, 1])]);
+    lines.extend([unfinished(1, 15), misses(2, 15, &[1, 0])]);
     // All paths together have 5 from tick 5 on: free at tick 2 + 5 and 4 + 5, and with 5 + 5 not by tick 9, nor is (1,2).
     lines.extend([unfinished(0, 45), meets(1, 45)]);
     lines.extend([unfinished(0, 45), meets(1, 45)]);
@@ -137,6 +141,9 @@ fn the_whole_table_by_the_documents_numbers() {
     // R1, R2: the third task needs most.
     assert_eq!(lines[2], counted([2, 1, 0, 0], 12));
     assert_eq!(lines[3], counted([3, 0, 0, 0], 12));
+    // R4 is refused as a whole.
+    let r4 = "1e0d00020000000001\n";
+    assert_eq!(lines[6..8], [r4, r4]);
     // R7, R8: the three vertices above need no cells and one group each.
     assert_eq!(lines[10], counted([4, 0, 0, 0], 25));
     assert_eq!(lines[11], counted([0, 0, 4, 0], 25));
@@ -194,7 +201,7 @@ fn every_verdict_and_every_refusal_is_there() {
         let of_kind = lines.iter().filter(|line| line.starts_with(kind));
         assert!(of_kind.count() > 50);
     }
-    for number in 1..=11 {
+    for number in (1..=11).chain([13]) {
         let refusal = format!("03{number:08x}");
         assert!(lines.iter().any(|line| line.starts_with(&refusal)));
     }

@@ -45,17 +45,35 @@ fn r3_the_path_up_to_the_horizon_is_written() {
 }
 
 #[test]
-fn r4_nothing_above() {
-    let tasks = [task(&[(1, 5), (5, 5), (6, 5), (3, 2)], &[])];
+fn r4_is_a_typing_slip() {
+    let r4 = [task(&[(3, 2)], &[])];
     for lent in [(0, 0), (3, 4)] {
-        let found = |vertex, budget| latest_in(&tasks, (0, vertex), budget, lent);
+        for (vertex, budget) in [(0, 0), (0, 1), (1, 1)] {
+            let found = latest_in(&r4, (0, vertex), budget, lent);
+            assert_refused(13, 2, &found, lent);
+        }
+    }
+}
+
+#[test]
+fn nothing_above() {
+    let first = task(&[(1, 5), (5, 5), (200, 200)], &[]);
+    let masking = masked(1, task(&[(1, 50)], &[]));
+    for lent in [(0, 0), (3, 4)] {
+        let alone = [first.clone()];
+        let found = |vertex, budget| latest_in(&alone, (0, vertex), budget, lent);
         assert_eq!(found(0, 1), meets(1, 1, lent, 0, &[]));
         assert_eq!(found(1, 1), meets(5, 1, lent, 0, &[]));
-        assert_eq!(found(2, 1), misses(1, lent, 0, &[]));
-        assert_eq!(found(3, u32::MAX), misses(1, lent, 0, &[]));
-        assert_eq!(found(0, 0), unfinished(0, lent, 0));
-        assert_eq!(found(3, 0), unfinished(0, lent, 0));
-        assert_refused(8, 0, &found(4, 1), lent);
+        assert_eq!(found(2, u32::MAX), meets(200, 1, lent, 0, &[]));
+        assert_eq!(found(2, 0), unfinished(0, lent, 0));
+        assert_refused(8, 0, &found(3, 1), lent);
+        // Only with masked time does a job miss, and it may be as long as its deadline.
+        let held_up = [first.clone(), masking.clone()];
+        let found = |vertex, budget| latest_in(&held_up, (0, vertex), budget, lent);
+        assert_eq!(found(0, 1), meets(2, 1, lent, 0, &[]));
+        assert_eq!(found(1, 1), misses(1, lent, 0, &[]));
+        assert_eq!(found(2, u32::MAX), misses(1, lent, 0, &[]));
+        assert_eq!(found(2, 0), unfinished(0, lent, 0));
     }
 }
 

@@ -48,12 +48,12 @@ fn bench() -> Vec<String> {
         misses(1, 12, &[2, 0, 0, 1, 0]),
         // R2
         meets(5, 1, 12, &[2, 0, 0, 1, 0]),
-        // R3, below it a vertex that always misses
+        // R3, below it a vertex that misses
         misses(1, 5, &[1, 0]),
         misses(1, 6, &[2, 0, 0]),
         // R4, with cells to spare and with none
-        misses(1, 0, &[]),
-        misses(1, 0, &[]),
+        refused(13, 2),
+        refused(13, 2),
         // R5, R6
         meets(5, 3, 15, &[1, 1]),
         misses(3, 12, &[1, 1]),
@@ -94,6 +94,9 @@ fn masked() -> Vec<String> {
         meets(5, 1, 0, &[]),
         misses(1, 0, &[]),
         misses(1, 0, &[]),
+        meets(200, 1, 0, &[]),
+        misses(1, 0, &[]),
+        misses(1, 0, &[]),
     ];
     // e 4, 1, 3, 2, 2, 7, 1 and 1, and as much masked: the own e, those above, and the largest below.
     let finishes = [11, 12, 15, 17, 19, 20, 21, 21];
@@ -102,9 +105,10 @@ fn masked() -> Vec<String> {
         let paths = [1, 0].repeat(higher);
         meets(finish, 1, 50 * higher as u32, &paths)
     }));
-    // R5, R6
+    // R5, R6; and 4 + 2 by tick 5
     lines.extend([unfinished(2, 15), meets(5, 3, 15, &[1, 1])]);
     lines.extend([unfinished(2, 12), misses(3, 12, &[1, 1])]);
+    lines.extend([unfinished(1, 15), misses(2, 15, &[1, 0])]);
     // (2) at tick 2 + 4, and (1,2) at 4 + 5; with 5 + 5 that is the witness.
     lines.extend([unfinished(4, 45), meets(6, 5, 45, &[1, 2])]);
     lines.extend([unfinished(4, 45), meets(9, 5, 45, &[2, 1, 2])]);
@@ -152,7 +156,7 @@ fn every_verdict_and_every_refusal_is_there() {
         let of_kind = lines.iter().filter(|line| line.starts_with(kind));
         assert!(of_kind.count() > 50);
     }
-    for number in 1..=11 {
+    for number in (1..=11).chain([13]) {
         let refusal = format!("03{number:08x}");
         assert!(lines.iter().any(|line| line.starts_with(&refusal)));
     }

@@ -63,11 +63,16 @@ fn the_largest_of_the_lower_ones_and_not_their_sum() {
 
 #[test]
 fn the_largest_m_there_is() {
-    let tasks = [task(&[(1_000, 200), (1, 200)], &[]), masking(1_000)];
-    for vertex in [0, 1] {
-        let misses = Verdict::Misses { count: 1, cells: 0 };
-        assert_eq!(judge_in(&tasks, (0, vertex), 1).0, misses);
-    }
+    // It is an e, which is at most a d.
+    let tasks = |m| {
+        let first = task(&[(1, 200), (200, 200)], &[]);
+        [first, masked(m, task(&[(200, 200)], &[]))]
+    };
+    let verdict = |m, vertex| judge_in(&tasks(m), (0, vertex), 1).0;
+    let misses = Verdict::Misses { count: 1, cells: 0 };
+    assert_eq!([verdict(200, 0), verdict(200, 1)], [misses; 2]);
+    assert_eq!(verdict(199, 0), Verdict::Meets { count: 1 });
+    assert_eq!(verdict(199, 1), misses);
 }
 
 #[test]
@@ -175,15 +180,22 @@ fn the_lower_tasks_play_no_part_but_by_the_largest_m() {
 
 #[test]
 fn b_counts_as_so_much_more_e() {
-    let mut held_up = 0;
+    let (mut held_up, mut too_long) = (0, 0);
     for_each_vertex(23, |_, tasks, numbers| {
         let (number, vertex) = numbers;
         let mut alone = tasks[..=number].to_vec();
-        alone[number].vertices[vertex].0 = e_plus_b(tasks, number, vertex);
+        let (e, d) = &mut alone[number].vertices[vertex];
+        *e = e_plus_b(tasks, number, vertex);
+        if *e > *d {
+            // No job may have so much e, but with masked time it is judged, and misses.
+            too_long += 1;
+            assert_eq!(answers_of(tasks, numbers).0.kind(), 1);
+            return;
+        }
         held_up += u32::from(alone[number] != tasks[number]);
         assert_eq!(answers_of(tasks, numbers), answers_of(&alone, numbers));
     });
-    assert!(held_up > 500, "{held_up}");
+    assert!(held_up > 400 && too_long > 400, "{held_up} {too_long}");
 }
 
 /// Tables with refusals 9 and 10.

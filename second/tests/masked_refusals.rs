@@ -35,40 +35,36 @@ fn a_valid_text_is_readable() {
 
 #[test]
 fn m_is_read_high_byte_first_and_is_0_without_one() {
-    let of_e = |e| task(&[(1, 9), (e, 9)], &[(0, 1, 9)]);
-    let lengths = [0, 1, 2, 255, 256, 258, 999, 1_000];
-    let tasks = lengths.map(|m| masked(m, of_e(1_000)));
+    let of_e = |e| task(&[(1, 9), (e, 200)], &[(0, 1, 9)]);
+    let lengths = [0, 1, 2, 99, 128, 199, 200];
+    let tasks = lengths.map(|m| masked(m, of_e(200)));
     let table = read(text(&tasks).as_bytes()).unwrap();
     let found: Vec<_> = table.tasks.iter().map(|task| task.m).collect();
     assert_eq!(found, lengths.map(Ticks));
-    let table = read(b"0401000102\n0203e80001\n00\n").unwrap();
-    assert_eq!(table.tasks[0].m, Ticks(258));
+    let table = read(b"0401000002\n02000200c8\n00\n").unwrap();
+    assert_eq!(table.tasks[0].m, Ticks(2));
+    // 512, which is within its bounds and above every e.
+    assert_eq!(check(b"0401000200\n02000200c8\n00\n"), (3, 2));
 }
 
 #[test]
 fn m_out_of_its_bounds_is_row_3_at_the_tasks_line() {
-    let vertex = vertex_line(1_000, 1);
     let before = open_text(&[task(&[(1, 1), (1, 1)], &[])]);
-    for (m, good) in [
-        (0, false),
-        (1, true),
-        (1_000, true),
-        (1_001, false),
-        (65_535, false),
-    ] {
-        let lines = masked_task_line(1, 0, m) + &vertex + "00\n";
-        let expected = |line| if good { (0, 0) } else { (3, line) };
-        assert_eq!(check(lines.as_bytes()), expected(1), "{m}");
-        assert_eq!(
-            check((before.clone() + &lines).as_bytes()),
-            expected(4),
-            "{m}"
-        );
+    let with = |m, next: &str| masked_task_line(1, 0, m) + next;
+    for m in [0, 1_001, 65_535] {
         // Whatever comes behind the line.
-        if !good {
-            let lines = masked_task_line(1, 0, m) + "zz\n";
+        for next in ["02000100c8\n00\n", "zz\n"] {
+            let lines = with(m, next);
             assert_eq!(check(lines.as_bytes()), (3, 1), "{m}");
+            let behind = before.clone() + &lines;
+            assert_eq!(check(behind.as_bytes()), (3, 4), "{m}");
         }
+    }
+    // The largest e that can be read is 200: a longer m, within its bounds, is refused at the vertex's line.
+    for (m, expected) in [(1, (0, 0)), (200, (0, 0)), (201, (3, 2)), (1_000, (3, 2))] {
+        let lines = with(m, "0200c800c8\n00\n");
+        assert_eq!(check(lines.as_bytes()), expected, "{m}");
+        assert_eq!(check(with(m, "zz\n").as_bytes()), (1, 2), "{m}");
     }
 }
 
@@ -104,9 +100,10 @@ fn m_up_to_the_largest_e_wherever_it_is() {
             }
         }
     }
+    let long = |m| check_tasks(&[masked(m, task(&[(199, 200)], &[]))]);
     assert_eq!(
-        check_tasks(&[masked(1_000, task(&[(999, 9)], &[]))]),
-        (3, 2)
+        [long(199), long(200), long(1_000)],
+        [(0, 0), (3, 2), (3, 2)]
     );
 }
 
@@ -149,6 +146,9 @@ fn the_last_vertexs_own_checks_come_before_ms() {
         ("0203e90006\n", 3),
         ("0200010000\n", 3),
         ("02000100c9\n", 3),
+        // A job longer than its own deadline, whose e m exceeds, and whose e it doesn't.
+        ("0200020001\n", 13),
+        ("0200070006\n", 13),
     ] {
         let found = check_with(&[(1, TOO_LARGE), (4, faulty)]);
         assert_eq!(found, (number, 4), "{faulty:?}");
@@ -160,7 +160,12 @@ fn the_last_vertexs_own_checks_come_before_ms() {
 
 #[test]
 fn an_earlier_vertexs_line_comes_before_m() {
-    for (faulty, number) in [("zz\n", 1), ("0300010005\n", 2), ("0200000005\n", 3)] {
+    for (faulty, number) in [
+        ("zz\n", 1),
+        ("0300010005\n", 2),
+        ("0200000005\n", 3),
+        ("0200060005\n", 13),
+    ] {
         for line in [2, 3] {
             let found = check_with(&[(1, TOO_LARGE), (line, faulty)]);
             assert_eq!(found, (number, line), "{faulty:?}");

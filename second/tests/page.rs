@@ -100,7 +100,7 @@ fn refusals() {
     let many = text(&[r10(), task(&[(1, 31)], &[])]);
     // 4 x 127 x 21 cells.
     let cells = text(&[r10(), r10(), r10(), r10(), task(&[(1, 21)], &[])]);
-    let mut said = vec![String::new(); 13];
+    let mut said = vec![String::new(); 14];
     for (number, text) in [
         (1, "\n"),
         (2, "00\n"),
@@ -112,6 +112,7 @@ fn refusals() {
         (9, &many),
         (10, &cells),
         (12, &"0".repeat(INPUT_BYTES + 1)),
+        (13, "010100\n0200030002\n"),
     ] {
         said[number] = format!("`{}`", rule(text, number));
     }
@@ -119,7 +120,7 @@ fn refusals() {
     said[10] = said[10].replace("10668", "N");
     let rows = rows("The refusals");
     let numbers: Vec<_> = rows.iter().map(|row| row[0].parse().unwrap()).collect();
-    assert_eq!(numbers, (1..=Row::LongInput as usize).collect::<Vec<_>>());
+    assert_eq!(numbers, (1..=Row::LongJob as usize).collect::<Vec<_>>());
     for (number, row) in numbers.into_iter().zip(rows) {
         match number {
             // No call of the program asks for these.

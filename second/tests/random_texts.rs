@@ -1,4 +1,4 @@
-//! Random and damaged texts, each checked against the definitions of document 01 and wish 3 tried out in full.
+//! Random and damaged texts, each checked against the definitions of document 01 and wish 3 tried out in full, and the refusal sheet.
 
 use crate::common::definitions::*;
 use crate::common::random::{damage, frames, noise, table, Random, Size};
@@ -12,7 +12,7 @@ const CHOICES: u128 = 3_000;
 /// How often each kind of answer was met, so that no check is empty by accident.
 #[derive(Debug, Default)]
 struct Seen {
-    refused_texts: [u32; 8],
+    refused_texts: [u32; 14],
     m_out_of_bounds: u32,
     m_too_large: u32,
     tables: u32,
@@ -101,7 +101,8 @@ fn damaged_texts() {
         check_desk(&frames(&mut random), &mut seen);
         check_desk(&noise(&mut random), &mut seen);
     }
-    assert!(seen.refused_texts[1..].iter().all(|&n| n > 30), "{seen:?}");
+    let often = |number: usize| seen.refused_texts[number] > 30;
+    assert!((1..=7).chain([13]).all(often), "{seen:?}");
     assert!(
         seen.m_out_of_bounds > 100 && seen.m_too_large > 100,
         "{seen:?}"

@@ -39,7 +39,6 @@ fn words_say_what_the_frames_say() {
     often("examined), with nothing above it");
     often("examined), by these releases:\n    task 0: vertex 1 ");
     often("examined), shown by");
-    often("help:");
     often("examined), with nothing above it:");
     often(" (1 tick of it is task 1's masked time), ");
     often(" (1 tick of it is task 1's masked time) are due ");
@@ -92,11 +91,7 @@ fn vertex_words(tasks: &[Task], frame: &[usize], paths: &[Vec<usize>], why: bool
         (0, ..) => start + &meets_words(higher, (e_plus_b, d), &masked, &groups, why),
         (1, _, 0) => {
             let due = due_words(e_plus_b, &masked, own, d);
-            let cause = match e_plus_b == own {
-                true => " with no other task's help",
-                false => ", with nothing above it",
-            };
-            format!("{start}MISSES {deadline}{cause}:\n{due}")
+            format!("{start}MISSES {deadline}, with nothing above it:\n{due}")
         }
         (1, ..) => {
             let releases = paths_words(higher, paths);

@@ -124,8 +124,8 @@ fn twelve_vertices_in_a_gear_table() {
 
 #[test]
 fn numbers_have_the_high_byte_first() {
-    let lines = "06010200810304\n0603e800c803e8\n06000100010001\n00\n";
-    let vertices = [(258, 129), (1_000, 200), (1, 1)];
+    let lines = "06008100c80304\n0600c800c803e8\n06000100010001\n00\n";
+    let vertices = [(129, 200), (200, 200), (1, 1)];
     let ring = task(&vertices, &[(0, 1, 772), (1, 2, 1_000), (2, 0, 1)]);
     check_reads_as(&format!("0503\n{lines}"), &[ring]);
 }
@@ -199,7 +199,7 @@ fn eight_tasks_in_every_mixture() {
 fn the_longest_text_of_rings() {
     for kind in KINDS {
         // A frame of 5 bytes and twelve of 15, eight times, and the end.
-        let mut longest = vendor_task(kind, &[(1_000, 200, 1_000); 12]).repeat(8) + "00\n";
+        let mut longest = vendor_task(kind, &[(200, 200, 1_000); 12]).repeat(8) + "00\n";
         assert_eq!(longest.len(), 8 * (5 + 12 * 15) + 3);
         assert_eq!(check(longest.as_bytes()), (0, 0));
         let table = read(longest.as_bytes()).unwrap();
@@ -263,19 +263,30 @@ fn a_gear_table_above_a_vertex() {
 
 #[test]
 fn round_a_ring_of_two() {
-    // Vertex 0 is released at 0 and 5, vertex 1 at 2: 1, 5 from tick 3 on, 6 at tick 6. With e 2 that exceeds every tick.
-    let text = "0502\n06000100020002\n06000400030003\n010100\n0200020006\n00\n";
-    let own = "1000000000000001\n1000010100000001\n";
-    let miss = "1001000100000002\n110003000100\n1f01020000\n";
-    assert_eq!(desk::output(text.as_bytes()), format!("{own}{miss}"));
-    // With the first p one longer, (0,1) leaves tick 3 free, and (1,0), with 4 and from tick 4 on 5, none.
-    let text = text.replace("06000100020002", "06000100020003");
-    let miss = "1001000100000003\n1100020100\n1f01020000\n";
-    assert_eq!(desk::output(text.as_bytes()), format!("{own}{miss}"));
-    // It is the last p that leads to the first: with it one longer instead, (0,1) and (1,0) both overload.
-    let text = "0502\n06000100020002\n06000400030004\n010100\n0200020006\n00\n";
-    let miss = "1001000100000002\n1100020001\n1f01020000\n";
-    assert_eq!(desk::output(text.as_bytes()), format!("{own}{miss}"));
+    let check = |ring: &str, judged: &str, miss: &str| {
+        let text = format!("0502\n{ring}010100\n{judged}00\n");
+        let own = "1000000000000001\n1000010000000001\n";
+        let output = format!("{own}{miss}1f02010000\n");
+        assert_eq!(desk::output(text.as_bytes()), output);
+    };
+    // Vertex 0 is released at 0 and 5, vertex 1 at 2: 2, 5 from tick 3 on, 7 at tick 6. With e 1 that exceeds every tick.
+    check(
+        "06000200020002\n06000300030003\n",
+        "0200010006\n",
+        "1001000100000002\n110003000100\n",
+    );
+    // With e 2 and d 5, (0,1), with 1 and from tick 4 on 4, leaves tick 3 free, and (1,0), with 3 and from tick 4 on 4, none.
+    check(
+        "06000100020003\n06000300030003\n",
+        "0200020005\n",
+        "1001000100000003\n1100020100\n",
+    );
+    // It is the last p that leads to the first: with that one longer and the first one shorter, (0,1) overloads, with 4 from tick 3 on.
+    check(
+        "06000100020002\n06000300030004\n",
+        "0200020005\n",
+        "1001000100000002\n1100020001\n",
+    );
 }
 
 #[test]

@@ -165,7 +165,7 @@ fn checked(bytes: &[u8]) -> (u8, Vec<u8>) {
 #[test]
 fn damaged_texts_against_the_sheet() {
     let mut random = Random(52);
-    let (mut rows, mut at_vertex, mut at_task) = ([0; 8], [0; 8], [0; 8]);
+    let (mut rows, mut at_vertex, mut at_task) = ([0; 14], [0; 14], [0; 14]);
     for _ in 0..20_000 {
         let mut bytes = random_text(&mut random, &SMALL).0.into_bytes();
         for _ in 0..=random.below(2) {
@@ -183,10 +183,11 @@ fn damaged_texts_against_the_sheet() {
     }
     // No edge is written there, so that row 5 is for plain tasks alone.
     let often = |row: usize| rows[row] > 200;
-    assert!([0, 1, 2, 3, 4, 6, 7].into_iter().all(often), "{rows:?}");
+    let all = [0, 1, 2, 3, 4, 6, 7, 13];
+    assert!(all.into_iter().all(often), "{rows:?}");
     let often = |row: usize| at_vertex[row] > 200;
-    assert!([1, 2, 3, 4].into_iter().all(often), "{at_vertex:?}");
+    assert!([1, 2, 3, 4, 13].into_iter().all(often), "{at_vertex:?}");
     assert_eq!(at_vertex[5], 0);
     assert!(at_task[2] > 200 && at_task[3] > 200, "{at_task:?}");
-    assert_eq!(at_task[4] + at_task[5], 0);
+    assert_eq!(at_task[4] + at_task[5] + at_task[13], 0);
 }

@@ -244,7 +244,8 @@ fn the_count_and_the_lines_that_follow() {
 
 #[test]
 fn row_3_e_d_and_p() {
-    for (e, row) in [(0, 3), (1, 0), (1_000, 0), (1_001, 3), (65_535, 3)] {
+    // 1,000 is within its bounds, though longer than any d.
+    for (e, row) in [(0, 3), (1, 0), (5, 0), (1_000, 13), (1_001, 3), (65_535, 3)] {
         check_vertex(e, 5, 7, row);
     }
     for (d, row) in [(0, 3), (1, 0), (200, 0), (201, 3), (65_535, 3)] {
@@ -314,6 +315,7 @@ fn the_first_faulty_line_decides() {
         (bad_kind, 2),
         (bad_number, 3),
         (bad_deadline, 4),
+        ("06000600050005\n", 13),
     ];
     for (first, row) in rows {
         for (second, _) in rows {

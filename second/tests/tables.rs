@@ -123,6 +123,17 @@ fn refused() {
 }
 
 #[test]
+fn slip() {
+    let table = include_str!("../../tables/slip.table");
+    let words = table_words(table);
+    let first =
+        "REFUSED (13) at line 20: the job is longer than its own deadline\n    02003c0008\n";
+    assert!(words.starts_with(first), "{words}");
+    let right = include_str!("../../tables/cradle_meets.table");
+    assert_eq!(table.replace("02003c0008", "020008003c"), right);
+}
+
+#[test]
 fn cradle_display() {
     let words = table_words(include_str!("../../tables/cradle_display.table"));
     for line in [

@@ -51,12 +51,11 @@ fn r2_may_go_out() {
 }
 
 #[test]
-fn r4_with_no_other_tasks_help() {
+fn r4_is_a_typing_slip() {
     let expected = "\
-task 0, vertex 0: MISSES its deadline of 2 ticks (1 group examined) with no other task's help:
-    3 ticks of work are due by the deadline, 3 of them its own: 1 tick too many
-meets 0, misses 1, unfinished 0, refused 0
-This may NOT go out: a job type misses its deadline.
+REFUSED (13) at line 2: the job is longer than its own deadline
+    0200030002
+This may NOT go out: the table can't be read, so nothing was judged.
 ";
     assert_eq!(table_words(&[task(&[(3, 2)], &[])]), expected);
 }
@@ -140,17 +139,17 @@ This may go out: every job type meets its deadline.
 
 #[test]
 fn releases_at_the_sums_of_their_separations() {
-    // Separations 3, 4 and 2, so ticks 0, 3, 7 and 9; the next release would be at 12. The work is 2 + 4 + 3 + 1 and 9.
+    // Separations 3, 4 and 2, so ticks 0, 3, 7 and 9; the next release would be at 12. The work is 2 + 4 + 2 + 1 and 9.
     let above = task(
-        &[(2, 3), (3, 2), (4, 4), (1, 2)],
+        &[(2, 3), (2, 2), (4, 4), (1, 2)],
         &[(0, 2, 3), (1, 3, 2), (2, 1, 4), (3, 0, 3)],
     );
     let words = table_words(&[above, task(&[(9, 10)], &[])]);
     let expected = "\
 task 1, vertex 0: MISSES its deadline of 10 ticks (3 groups examined), shown by these releases:
     task 0: vertex 0 at tick 0, vertex 2 at tick 3, vertex 1 at tick 7, vertex 3 at tick 9
-    19 ticks of work are due by the deadline, 9 of them its own: 9 ticks too many
-meets 3, misses 2, unfinished 0, refused 0
+    18 ticks of work are due by the deadline, 9 of them its own: 8 ticks too many
+meets 4, misses 1, unfinished 0, refused 0
 ";
     assert!(words.contains(expected), "{words}");
 }
@@ -185,7 +184,7 @@ This may NOT go out: not every job type was shown to meet its deadline.
 
 #[test]
 fn a_miss_decides_before_a_refusal() {
-    let words = table_words(&[r10(), task(&[(1, 31), (32, 31)], &[]), task(&[(2, 1)], &[])]);
+    let words = table_words(&[r10(), task(&[(1, 31), (31, 31)], &[]), task(&[(1, 1)], &[])]);
     let expected = "\
 meets 4, misses 1, unfinished 0, refused 2
 This may NOT go out: a job type misses its deadline.
@@ -304,7 +303,7 @@ fn the_program_writes_an_empty_line_after_each_text() {
 }
 
 /// What is said of some text that the words are checked with.
-const SAID: [&str; 35] = [
+const SAID: [&str; 36] = [
     "REFUSED (1) at",
     "REFUSED (2) at",
     "REFUSED (3) at",
@@ -316,6 +315,8 @@ const SAID: [&str; 35] = [
     "REFUSED (9): task 1",
     "REFUSED (10): ",
     "REFUSED (12): ",
+    "REFUSED (13) at line 2: the job is longer than its own deadline\n    0200060005\n",
+    "REFUSED (13) at line 3: the job is longer than its own deadline\n    06000600050004\n",
     "(an empty line)",
     "(the text ends before this line)",
     r"\x0d",
@@ -328,7 +329,6 @@ const SAID: [&str; 35] = [
     "; its worst finish wasn't found within 100000 groups)",
     "MISSES its deadline of 1 tick (",
     "examined), shown by",
-    "help:",
     "examined), with nothing above it:",
     "after 3 (1 tick of it is task 3's masked time), 2 to spare",
     "3 ticks of work (1 tick of it is task 1's masked time) are due",

@@ -9,10 +9,10 @@ use second::write::write;
 /// More bytes than any text has.
 const PLENTY: usize = 4_000;
 
-/// A task of three vertices, d 5, with the largest e 7 in the second, and three edges.
+/// A task of three vertices, d 5, with the largest e 5 in the second, and three edges.
 fn three() -> Task {
     task(
-        &[(2, 5), (7, 5), (3, 5)],
+        &[(2, 5), (5, 5), (3, 5)],
         &[(0, 1, 9), (1, 0, 9), (2, 2, 9)],
     )
 }
@@ -60,18 +60,18 @@ fn a_masked_length_written() {
     assert_eq!(write(&record(&tasks), &mut area), Ok(54));
     assert_eq!(area, text);
     assert_eq!(said(&tasks, 53), Err((10, 54)));
-    let largest = masked(1_000, task(&[(1_000, 1)], &[]));
+    let largest = masked(200, task(&[(200, 200)], &[]));
     let mut area = byte_area(25);
     assert_eq!(write(&record(&[largest]), &mut area), Ok(25));
-    assert_eq!(area, b"04010003e8\n0203e80001\n00\n");
+    assert_eq!(area, b"04010000c8\n0200c800c8\n00\n");
 }
 
 #[test]
 fn the_longest_text() {
     let edges: Vec<_> = (0..32).map(|n| (n / 12, n % 12, 1_000)).collect();
-    let plain = task(&[(1_000, 200); 12], &edges);
+    let plain = task(&[(200, 200); 12], &edges);
     assert_eq!(said(&vec![plain.clone(); 8], PLENTY), Ok(3_931));
-    let longest = vec![masked(1_000, plain); 8];
+    let longest = vec![masked(200, plain); 8];
     assert_eq!(said(&longest, 3_963), Ok(3_963));
     assert_eq!(said(&longest, 3_962), Err((10, 3_963)));
     assert_eq!(said(&longest, 0), Err((10, 3_963)));
@@ -138,9 +138,14 @@ const PLACES: [(usize, usize, usize, usize); 3] = [(0, 0, 2, 5), (1, 1, 10, 13),
 #[test]
 fn e_and_d() {
     for (place, at, line, _) in PLACES {
-        for e in [1, 1_000] {
+        for e in [1, 5] {
             let said = changed(|tasks| tasks[place].vertices[at].0 = e);
             assert_eq!(said, Ok(TABLE_BYTES));
+        }
+        // Longer than its own deadline, and within its bounds.
+        for e in [6, 1_000] {
+            let said = changed(|tasks| tasks[place].vertices[at].0 = e);
+            assert_eq!(said, Err((13, line)));
         }
         // 65,537 is 1 in its low bytes.
         for e in [0, 1_001, 65_535, 65_537, u32::MAX] {
@@ -150,7 +155,7 @@ fn e_and_d() {
         let d = |d: u32| {
             changed(|tasks| {
                 tasks[place].edges.iter_mut().for_each(|edge| edge.2 = 200);
-                tasks[place].vertices[at].1 = d;
+                tasks[place].vertices[at] = (1, d);
             })
         };
         for within in [1, 200] {
@@ -167,7 +172,7 @@ fn p() {
     for (place, at, _, line) in PLACES {
         let said = |p: u32| {
             changed(|tasks| {
-                tasks[place].vertices.iter_mut().for_each(|v| v.1 = 1);
+                tasks[place].vertices.fill((1, 1));
                 tasks[place].edges[at].2 = p;
             })
         };
@@ -186,7 +191,7 @@ fn d_of_the_starting_vertex() {
         // The edges start from vertices 0, 1 and 2.
         let said = |d: u32, p: u32| {
             changed(|tasks| {
-                tasks[place].vertices[at].1 = d;
+                tasks[place].vertices[at] = (1, d);
                 tasks[place].edges[at].2 = p;
             })
         };
@@ -227,10 +232,10 @@ fn masked_lengths() {
         let m = |m: u32| changed(|tasks| tasks[place].m = m);
         assert_eq!(m(0), Ok(TABLE_BYTES));
         // Frame 04 has two bytes more.
-        for within in [1, 2, 3, 6, 7] {
+        for within in [1, 2, 3, 4, 5] {
             assert_eq!(m(within), Ok(TABLE_BYTES + 4));
         }
-        for too_large in [8, 1_000] {
+        for too_large in [6, 1_000] {
             assert_eq!(m(too_large), Err((3, last)));
         }
         for outside in [1_001, 65_535, 65_536, 65_537, u32::MAX] {
@@ -244,16 +249,18 @@ fn masked_lengths() {
                     tasks[place].m = m;
                 })
             };
-            assert_eq!(m(7), Ok(TABLE_BYTES + 4));
-            assert_eq!(m(8), Err((3, last)));
+            assert_eq!(m(5), Ok(TABLE_BYTES + 4));
+            assert_eq!(m(6), Err((3, last)));
         }
         let long = |m: u32| {
             changed(|tasks| {
-                tasks[place].vertices[1].0 = 1_000;
+                tasks[place].edges.iter_mut().for_each(|edge| edge.2 = 200);
+                tasks[place].vertices[1] = (200, 200);
                 tasks[place].m = m;
             })
         };
-        assert_eq!(long(1_000), Ok(TABLE_BYTES + 4));
+        assert_eq!(long(200), Ok(TABLE_BYTES + 4));
+        assert_eq!([long(201), long(1_000)], [Err((3, last)); 2]);
         assert_eq!(long(1_001), Err((3, own)));
     }
 }
@@ -283,11 +290,13 @@ type Fault = (fn(&mut Vec<Task>), (u8, usize));
 
 #[test]
 fn the_first_line_decides() {
-    let faults: [Fault; 8] = [
+    let faults: [Fault; 10] = [
         (|tasks| tasks[0].m = 1_001, (3, 1)),
         (|tasks| tasks[0].vertices[0].1 = 201, (3, 2)),
+        (|tasks| tasks[0].vertices[1].0 = 6, (13, 3)),
         (|tasks| tasks[0].vertices[2].0 = 0, (3, 4)),
         (|tasks| tasks[0].edges[1].2 = 4, (4, 6)),
+        (|tasks| tasks[1].vertices[1].0 = 1_000, (13, 10)),
         (|tasks| tasks[1].m = 8, (3, 11)),
         (|tasks| tasks[1].edges[1] = (0, 1, 9), (5, 13)),
         (|tasks| tasks[2].edges[1].2 = 0, (3, 20)),
@@ -334,7 +343,10 @@ fn within_a_line() {
     assert_eq!(said(|task| task.vertices[1].0 = 0), Err((3, 10)));
     assert_eq!(said(|task| task.vertices[2].0 = 0), Err((3, 11)));
     assert_eq!(said(|task| task.edges[0].2 = 4), Err((3, 11)));
-    assert_eq!(said(|task| task.vertices[2].0 = 8), Ok(TABLE_BYTES + 4));
+    let last = |last: (u32, u32)| changed(|tasks| (tasks[1].m, tasks[1].vertices[2]) = (8, last));
+    assert_eq!(last((8, 9)), Ok(TABLE_BYTES + 4));
+    // It comes after a job longer than its own deadline, whether that has as much e or not.
+    assert_eq!([last((6, 5)), last((8, 5))], [Err((13, 11)); 2]);
 }
 
 #[test]

@@ -9,7 +9,7 @@ use std::process::{Command, Output};
 
 /// The words that the generator knows, the mode of each, and the most bytes of its sequence.
 const KINDS: [(&str, u8, usize); 3] = [
-    ("records", RECORD, 220_000),
+    ("records", RECORD, 225_000),
     ("texts", BACK, 60_000),
     ("cells", CELLS, 120_000),
 ];
@@ -54,8 +54,8 @@ fn checked(case: &Case) -> u8 {
 }
 
 /// How many cases have each number.
-fn numbers(cases: &[Case]) -> [usize; 11] {
-    let mut numbers = [0; 11];
+fn numbers(cases: &[Case]) -> [usize; 14] {
+    let mut numbers = [0; 14];
     for case in cases {
         numbers[usize::from(checked(case))] += 1;
     }
@@ -73,10 +73,11 @@ fn every_answer_is_there() {
         assert!(numbers[0] >= 80 && numbers[10] >= 20, "{numbers:?}");
         match mode {
             BACK => assert!(numbers[1] >= 15, "{numbers:?}"),
-            _ => assert!(
-                numbers[2] >= 8 && numbers[3] >= 100 && numbers[4] >= 15 && numbers[5] >= 15,
-                "{numbers:?}"
-            ),
+            _ => {
+                assert!(numbers[2] >= 8 && numbers[3] >= 100, "{numbers:?}");
+                let seen = [4, 5, 13].map(|number| numbers[number]);
+                assert!(seen.iter().all(|&n| n >= 15), "{numbers:?}");
+            }
         }
     }
 }
@@ -96,7 +97,8 @@ fn random_cases() {
         let refused = if mode == BACK { numbers[1] } else { numbers[3] };
         assert!(refused >= 200, "{numbers:?}");
         if mode != BACK {
-            assert!(numbers[4] >= 30 && numbers[5] >= 30, "{numbers:?}");
+            let seen = [4, 5, 13].map(|number| numbers[number]);
+            assert!(seen.iter().all(|&n| n >= 30), "{numbers:?}");
         }
     }
 }
@@ -138,8 +140,12 @@ fn they_reach_what_they_are_made_for() {
     let is_longest = |case: &&Case| case.work == 3_963 && checked(case) == 0;
     assert_eq!(all.iter().filter(is_longest).count(), 2);
     // Refused by a rule although there is no area at all.
-    let is_before_10 = |case: &&Case| case.work == 0 && (2..=5).contains(&checked(case));
-    assert!(all.iter().filter(is_before_10).count() >= 50);
+    let before_10 = all.iter().filter(|case| case.work == 0).map(checked);
+    let before_10: Vec<_> = before_10
+        .filter(|&number| ![0, 10].contains(&number))
+        .collect();
+    assert!(before_10.len() >= 50);
+    assert!(before_10.iter().filter(|&&number| number == 13).count() >= 10);
     // A list that ends inside a task, in an odd byte too.
     let cells = cases(&["cells"]);
     assert!(cells.iter().any(|case| case.text.len() % 2 == 1));

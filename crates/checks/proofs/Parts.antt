@@ -6,8 +6,8 @@ use mathlib.Core.Bool.{true, false}
 use mathlib.Core.List.{List}
 use lib.ListN.{getD}
 use Rattle.meaning.specs.Table as Meant
-use Rattle.kinds.specs.declared.Refusal.the-variants.{OutOfBounds, DeadlineOverSeparation, EdgeNotAfter}
-use Rattle.rules.specs.Rules.{vertexIn, edgeIn, edgeSpaced, edgeAfter, leastAfter}
+use Rattle.kinds.specs.declared.Refusal.the-variants.{OutOfBounds, DeadlineOverSeparation, EdgeNotAfter, JobOverDeadline}
+use Rattle.rules.specs.Rules.{vertexIn, edgeIn, jobInTime, edgeSpaced, edgeAfter, leastAfter}
 use Rattle.rules.proofs.Within.{edge-bounds}
 use Rattle.table.specs.declared.Vertex.{Vertex}
 use Rattle.table.specs.declared.Edge.{Edge}
@@ -25,9 +25,14 @@ module _ (x : Vertex) (line : ℕ) where
   unfolding vertexCheck
   vertex-outside q e = rw q e
 
-  pub vertex-kept : vertexIn (x .e .0) (x .d .0) ≡ true → Kept ≡ vertexCheck line (vertexOf x)
-  unfolding vertexCheck
-  vertex-kept q = rw q
+  module _ (q : vertexIn (x .e .0) (x .d .0) ≡ true) where
+    pub vertex-slip : {r : Check} → jobInTime (x .e .0) (x .d .0) ≡ false → r ≡ brokenBy JobOverDeadline line → r ≡ vertexCheck line (vertexOf x)
+    unfolding vertexCheck
+    vertex-slip j e = rw (q, j) e
+
+    pub vertex-kept : jobInTime (x .e .0) (x .d .0) ≡ true → Kept ≡ vertexCheck line (vertexOf x)
+    unfolding vertexCheck
+    vertex-kept j = rw (q, j)
 
 -- from a line on
 abbrev pub vertexOrder : Order ℕ Meant.Vertex

@@ -16,9 +16,9 @@ use Rattle.meaning.specs.Text.{Reading, readable, unreadable, framesFrom}
 use Rattle.meaning.specs.Writing.{frameOfTask, frameOfVertex, frameOfEdge, frameOfEnd, framesOfTask, ruled}
 use Rattle.meaning.proofs.Readable.{framesStep, step-frames}
 use Rattle.meaning.proofs.FramesBack.{two-word}
-use Rattle.kinds.specs.declared.Refusal.the-variants.{WrongFrame, OutOfBounds, DeadlineOverSeparation, EdgeNotAfter}
+use Rattle.kinds.specs.declared.Refusal.the-variants.{WrongFrame, OutOfBounds, DeadlineOverSeparation, EdgeNotAfter, JobOverDeadline}
 use Rattle.kinds.specs.Numbers.{refusalNumber}
-use Rattle.rules.specs.Rules.{taskIn, vertexIn, edgeIn, edgeSpaced, edgeAfter, leastAfter}
+use Rattle.rules.specs.Rules.{taskIn, vertexIn, jobInTime, edgeIn, edgeSpaced, edgeAfter, leastAfter}
 use Rattle.rules.proofs.Within.{TaskBounds, task-bounds, EdgeBounds, edge-bounds}
 use Rattle.rules.proofs.Order.{Follows, follows-none, follows-more}
 use Rattle.checks.specs.declared.Check.{Check}
@@ -56,12 +56,14 @@ module _ (ts : List Task) (m e : ℕ) where
       let o : suc v - 1 ≡ v = omega arith in
       step-frames some (afterVertices vs (suc v)) n (frameOfVertex x) fs
       ∙ rw (two-word (x .e), two-word (x .d), o)
-      (go (within 1 largestE (x .e) && within 1 largestD (x .d))
+      (go (within 1 largestE (x .e) && within 1 largestD (x .d)) (jobInTime (x .e) (x .d))
       (gate (ltb 1 (suc v) || leb m (largestEIn (vs ++ (x ∷ [])))) 3 (on (afterVertices (vs ++ (x ∷ [])) v))))
     where
-      go : (b : Bool) (s : Step) → framesStep some (gate b 3 s) n fs ≡ unless (pick b Kept (brokenBy OutOfBounds n)) (framesStep some s n fs)
-      go true s = refl
-      go false s = refl
+      go : (b c : Bool) (s : Step) → framesStep some (gate b 3 (gate c 13 s)) n fs
+          ≡ unless (pick b (pick c Kept (brokenBy JobOverDeadline n)) (brokenBy OutOfBounds n)) (framesStep some s n fs)
+      go true true s = refl
+      go true false s = refl
+      go false c s = refl
 
   last-turn : (vs : List Vertex) (n : ℕ) (fs : List (List ℕ))
       → framesStep some (gate (leb m (largestEIn vs)) 3 (on (afterVertices vs 0))) n fs ≡ unless (maskCheck n m vs) (inTurn (afterVertices vs 0) (suc n) fs)

@@ -9,8 +9,8 @@ use Rattle.meaning.specs.Bounds.{mostTasks}
 use Rattle.meaning.specs.Table as Meant
 use Rattle.meaning.specs.Texts.{textLength}
 use Rattle.kinds.specs.declared.Refusal.{Refusal}
-use Rattle.kinds.specs.declared.Refusal.the-variants.{WrongFrame, OutOfBounds, DeadlineOverSeparation, EdgeNotAfter}
-use Rattle.rules.specs.Rules.{taskIn, vertexIn, edgeIn, maskCovered, edgeSpaced, edgeAfter, leastAfter}
+use Rattle.kinds.specs.declared.Refusal.the-variants.{WrongFrame, OutOfBounds, DeadlineOverSeparation, EdgeNotAfter, JobOverDeadline}
+use Rattle.rules.specs.Rules.{taskIn, vertexIn, edgeIn, jobInTime, maskCovered, edgeSpaced, edgeAfter, leastAfter}
 use Rattle.table.specs.declared.Table.{Table}
 use Rattle.table.specs.Record.{tableHeld}
 use Rattle.checks.specs.declared.Check.{Check}
@@ -30,7 +30,8 @@ andThen (Broken at) c = Broken at
 -- ---- vertices, from line n on
 
 unfoldable pub vertexCheck : ℕ → Meant.Vertex → Check
-vertexCheck n x = pick (vertexIn (x .e) (x .d)) Kept (brokenBy OutOfBounds n)
+vertexCheck n x =
+    pick (vertexIn (x .e) (x .d)) (pick (jobInTime (x .e) (x .d)) Kept (brokenBy JobOverDeadline n)) (brokenBy OutOfBounds n)
 
 abbrev pub verticesCheck : ℕ → List Meant.Vertex → Check
 verticesCheck n [] = Kept

@@ -1,5 +1,5 @@
 // "A table that breaks a rule gets 2 to 5 with the line its frame would have, first line first (no task: 2, line 1; more than eight: 2, the ninth's
-// line)."
+// line)." A job longer than its own deadline gets 13, by wish 6.
 //
 // The first line of a table that breaks a rule, by the questions that the reader asks of a text; and how many bytes its text has where no line does.
 use bounds::MOST_EDGES;
@@ -13,6 +13,7 @@ use kinds::RefusedAt;
 use rules::edge_after;
 use rules::edge_in;
 use rules::edge_spaced;
+use rules::job_in_time;
 use rules::least_after;
 use rules::mask_covered;
 use rules::task_in;
@@ -52,8 +53,13 @@ fn broken(refusal: Refusal, line: u32) -> Check
 fn check_vertex(x: Vertex, line: u32) -> Check
     ensures { λ r. ⌜ r ≡ vertexCheck line (vertexOf x) ⌝ }
 {
-    if !vertex_in(x.e.0 as u32, x.d.0 as u32) {
+    let e = x.e.0 as u32;
+    let d = x.d.0 as u32;
+    if !vertex_in(e, d) {
         return broken(Refusal::OutOfBounds, line);
+    }
+    if !job_in_time(e, d) {
+        return broken(Refusal::JobOverDeadline, line);
     }
     Check::Kept
 }

@@ -7,7 +7,7 @@ use lib.ListN.{length, getD}
 use borrow.Author.Tests.{not-true, not-false, le-leb, lt-leb, eq-eqb, ne-eqb}
 use Rattle.meaning.specs.Bounds.{mostTasks}
 use Rattle.kinds.specs.declared.Refusal.{Refusal}
-use Rattle.kinds.specs.declared.Refusal.the-variants.{BadLine, WrongFrame, OutOfBounds, DeadlineOverSeparation, EdgeNotAfter, NoEnd}
+use Rattle.kinds.specs.declared.Refusal.the-variants.{BadLine, WrongFrame, OutOfBounds, DeadlineOverSeparation, EdgeNotAfter, NoEnd, JobOverDeadline}
 use Rattle.table.specs.declared.Vertex.{Vertex}
 use Rattle.table.specs.Record.{noVertex}
 use Rattle.table.specs.Inner.{ticks, vertexCells, edgeCells}
@@ -22,7 +22,7 @@ use Rattle.digits.specs.Digits.{frameAt, digitCount}
 use Rattle.frames.specs.Frames.{taskDigits, partDigits, endDigits, faultOf, startsWith, vertexE, vertexD, vertexLine, edgeFrom, edgeTo, edgeP, edgeLine}
 use Rattle.frames.specs.Frames.{linkedDigits, linkDigits, linkP, linkLine, headWith, linkedLine}
 use Rattle.frames.specs.Frames.{taskVertices, taskEdges, taskMask, endLine, taskLine, taskOrEndLine}
-use Rattle.rules.specs.Rules.{taskIn, vertexIn, edgeIn, linkIn, edgeSpaced, edgeAfter}
+use Rattle.rules.specs.Rules.{taskIn, vertexIn, edgeIn, linkIn, jobInTime, edgeSpaced, edgeAfter}
 
 -- a call gave b for the test x, and the code went on, or left, at `!b`
 pub held : {b x : Bool} → b ≡ x → not b ≡ false → x ≡ true
@@ -69,9 +69,14 @@ module _ {t : List ℕ} {e d : ℕ} (s : VertexSeen t e d) where
   unfolding vertexLine
   vertex-outside h x = rw (s .starts, ← s .e-there, ← s .d-there, h, x)
 
-  pub vertex-taken : vertexIn e d ≡ true → VertexTaken (vertexCells e d) ≡ vertexLine t
-  unfolding vertexLine
-  vertex-taken h = rw (s .starts, ← s .e-there, ← s .d-there, h)
+  module _ (h : vertexIn e d ≡ true) where
+    pub vertex-slip : jobInTime e d ≡ false → VertexRefused JobOverDeadline ≡ vertexLine t
+    unfolding vertexLine
+    vertex-slip j = rw (s .starts, ← s .e-there, ← s .d-there, h, j)
+
+    pub vertex-taken : jobInTime e d ≡ true → VertexTaken (vertexCells e d) ≡ vertexLine t
+    unfolding vertexLine
+    vertex-taken j = rw (s .starts, ← s .e-there, ← s .d-there, h, j)
 
 -- ---- an edge's line
 
@@ -127,13 +132,17 @@ module _ {t : List ℕ} {e d p : ℕ} (s : LinkSeen t e d p) where
   link-outside h x = rw (s .starts, ← s .e-there, ← s .d-there, ← s .p-there, h, x)
 
   module _ (h : linkIn e d p ≡ true) where
-    pub link-late : edgeSpaced d p ≡ false → LinkRefused DeadlineOverSeparation ≡ linkLine t
+    pub link-slip : jobInTime e d ≡ false → LinkRefused JobOverDeadline ≡ linkLine t
     unfolding linkLine
-    link-late l = rw (s .starts, ← s .e-there, ← s .d-there, ← s .p-there, h, l)
+    link-slip j = rw (s .starts, ← s .e-there, ← s .d-there, ← s .p-there, h, j)
 
-    pub link-taken : edgeSpaced d p ≡ true → LinkTaken (vertexCells e d) (ticks p) ≡ linkLine t
+    pub link-late : jobInTime e d ≡ true → edgeSpaced d p ≡ false → LinkRefused DeadlineOverSeparation ≡ linkLine t
     unfolding linkLine
-    link-taken l = rw (s .starts, ← s .e-there, ← s .d-there, ← s .p-there, h, l)
+    link-late j l = rw (s .starts, ← s .e-there, ← s .d-there, ← s .p-there, h, j, l)
+
+    pub link-taken : jobInTime e d ≡ true → edgeSpaced d p ≡ true → LinkTaken (vertexCells e d) (ticks p) ≡ linkLine t
+    unfolding linkLine
+    link-taken j l = rw (s .starts, ← s .e-there, ← s .d-there, ← s .p-there, h, j, l)
 
 -- ---- a task's line, and the end's
 

@@ -9,7 +9,7 @@ use Rattle.meaning.specs.Table as Meant
 use Rattle.meaning.specs.Text.{linesOf, Begun, linked, on, wrong, gate, isFrame, word, linkFrame, Reading, unreadable, readFrom}
 use Rattle.meaning.specs.Lists.{pick}
 use Rattle.meaning.proofs.Readable.{readStep}
-use Rattle.kinds.specs.declared.Refusal.the-variants.{WrongFrame, OutOfBounds, DeadlineOverSeparation}
+use Rattle.kinds.specs.declared.Refusal.the-variants.{WrongFrame, OutOfBounds, DeadlineOverSeparation, JobOverDeadline}
 use Rattle.kinds.specs.Numbers.{refusalNumber}
 use Rattle.kinds.specs.declared.Ticks.{Ticks}
 use Rattle.table.specs.declared.Vertex.{Vertex}
@@ -18,7 +18,7 @@ use Rattle.table.specs.Inner.{ticks, vertexCells}
 use Rattle.frames.specs.declared.LinkLine.{LinkLine}
 use Rattle.frames.specs.declared.LinkLine.the-variants.{LinkTaken, LinkRefused}
 use Rattle.digits.specs.Digits.{worthOf, pairAt}
-use Rattle.rules.specs.Rules.{linkIn, edgeSpaced}
+use Rattle.rules.specs.Rules.{linkIn, jobInTime, edgeSpaced}
 use Rattle.frames.specs.Frames.{linkDigits, linkBytes, faultOf, startsWith, vertexE, vertexD, linkP, linkLine}
 use Rattle.digits.proofs.Spelled.{Spelled}
 use Rattle.digits.proofs.Pairs.{spelled-of}
@@ -59,7 +59,7 @@ module _ (ts : List Meant.Task) (vs : List Meant.Vertex) (es : List Meant.Edge) 
       let z =
       spelled-of 7 t (s .long) (s .fed) (omega arith, (omega arith, (omega arith, (omega arith, (omega arith, (omega arith, (omega arith, tt))))))) in
       let o : suc k - 1 ≡ k = omega arith in
-      right-read before n z ∙ simp (c, q, o, p) (gated (edgeSpaced (vertexD t) (linkP t)))
+      right-read before n z ∙ simp (c, q, o, p) (gated (jobInTime (vertexE t) (vertexD t)) (edgeSpaced (vertexD t) (linkP t)))
     where
       x : Vertex
       x = vertexCells (vertexE t) (vertexD t)
@@ -67,10 +67,11 @@ module _ (ts : List Meant.Task) (vs : List Meant.Vertex) (es : List Meant.Edge) 
       r : Ticks
       r = ticks (linkP t)
 
-      gated : (b : Bool) → readStep (gate b 4 (on (linked ts (linkMore x r) to k))) n (linesOf (drop linkBytes t))
-          ≡ linkGives (pick b (LinkTaken x r) (LinkRefused DeadlineOverSeparation)) n behind
-      gated true = refl
-      gated false = refl
+      gated : (a b : Bool) → readStep (gate a 13 (gate b 4 (on (linked ts (linkMore x r) to k)))) n (linesOf (drop linkBytes t))
+          ≡ linkGives (pick a (pick b (LinkTaken x r) (LinkRefused DeadlineOverSeparation)) (LinkRefused JobOverDeadline)) n behind
+      gated true true = refl
+      gated true false = refl
+      gated false b = refl
 
   pub link-read : readFrom before n (linesOf t) ≡ linkGives (linkLine t) n behind
   unfolding linkLine

@@ -7,11 +7,12 @@ use mathlib.Core.List.{List, [], _∷_, _++_}
 use lib.ListN.{length, drop}
 use lib.Dec.{leb, ltb}
 use borrow.Author.Tests.{eq-eqb, lt-ltb}
+use Rattle.meaning.specs.Lists.{pick}
 use Rattle.meaning.specs.Table as Meant
 use Rattle.meaning.specs.Table.{largestEIn}
 use Rattle.meaning.specs.Text.{linesOf, Begun, begun, on, wrong, gate, isFrame, word, vertexFrame, Reading, unreadable, readFrom}
 use Rattle.meaning.proofs.Readable.{readStep}
-use Rattle.kinds.specs.declared.Refusal.the-variants.{WrongFrame, OutOfBounds}
+use Rattle.kinds.specs.declared.Refusal.the-variants.{WrongFrame, OutOfBounds, JobOverDeadline}
 use Rattle.kinds.specs.Numbers.{refusalNumber}
 use Rattle.table.specs.declared.Vertex.{Vertex}
 use Rattle.table.specs.Record.{vertexOf}
@@ -19,7 +20,7 @@ use Rattle.table.specs.Inner.{vertexCells}
 use Rattle.frames.specs.declared.VertexLine.{VertexLine}
 use Rattle.frames.specs.declared.VertexLine.the-variants.{VertexTaken, VertexRefused}
 use Rattle.digits.specs.Digits.{worthOf, pairAt}
-use Rattle.rules.specs.Rules.{vertexIn}
+use Rattle.rules.specs.Rules.{vertexIn, jobInTime}
 use Rattle.frames.specs.Frames.{partDigits, partBytes, faultOf, startsWith, vertexE, vertexD, vertexLine}
 use Rattle.digits.proofs.Spelled.{Spelled}
 use Rattle.digits.proofs.Pairs.{spelled-of}
@@ -57,8 +58,8 @@ module _ (ts : List Meant.Task) (m : ℕ) (vs : List Meant.Vertex) (es : List Me
   vertex-wrong z i q = rw (framed-bytes 2 5 z i) (simp q)
 
   vertex-right : startsWith t 50 partDigits ≡ true → vertexIn (vertexE t) (vertexD t) ≡ true
-      → readFrom before n (linesOf t) ≡ behind (vertexCells (vertexE t) (vertexD t))
-  unfolding vertexIn worthOf
+      → readFrom before n (linesOf t) ≡ vertexGives (vertexLine t) n behind
+  unfolding vertexLine vertexIn worthOf
   vertex-right p q =
       let s : Starts t 50 partDigits = starts-says t 50 partDigits p in
       let b = vertex-bounds (vertexE t) (vertexD t) q in
@@ -66,8 +67,19 @@ module _ (ts : List Meant.Task) (m : ℕ) (vs : List Meant.Vertex) (es : List Me
       let c : pairAt t 0 ≡ 2 = simp (s .first, s .second) in
       let z = spelled-of 5 t (s .long) (s .fed) (omega arith, (omega arith, (omega arith, (omega arith, (omega arith, tt))))) in
       let o : suc k - 1 ≡ k = omega arith in
-      right-read before n z
-      ∙ simp (eq-eqb (pairAt t 0) 2 c, q, o) (mask-behind ts m es ne n k (vs ++ (Meant.vertex (vertexE t) (vertexD t) ∷ [])) (drop partBytes t))
+      right-read before n z ∙ simp (eq-eqb (pairAt t 0) 2 c, q, o, p) (gated (jobInTime (vertexE t) (vertexD t)))
+    where
+      x : Vertex
+      x = vertexCells (vertexE t) (vertexD t)
+
+      vs′ : List Meant.Vertex
+      vs′ = vs ++ (vertexOf x ∷ [])
+
+      gated : (b : Bool)
+          → readStep (gate b 13 (gate (ltb 1 (suc k) || leb m (largestEIn vs′)) 3 (on (begun ts (Meant.task m vs′ es) k ne)))) n (linesOf (drop partBytes t))
+          ≡ vertexGives (pick b (VertexTaken x) (VertexRefused JobOverDeadline)) n behind
+      gated true = mask-behind ts m es ne n k vs′ (drop partBytes t)
+      gated false = refl
 
   pub vertex-read : readFrom before n (linesOf t) ≡ vertexGives (vertexLine t) n behind
   unfolding vertexLine
@@ -76,7 +88,7 @@ module _ (ts : List Meant.Task) (m : ℕ) (vs : List Meant.Vertex) (es : List Me
       go : (x : Bool) → startsWith t 50 partDigits ≡ x → (y : Bool) → vertexIn (vertexE t) (vertexD t) ≡ y
           → readFrom before n (linesOf t) ≡ vertexGives (vertexLine t) n behind
       go false p y q = simp p (fault-law before n partDigits WrongFrame t (λ b f r z. simp (not-frame 2 (omega arith) 5 z p, same-pick)))
-      go true p true q = simp (p, q) (vertex-right p q)
+      go true p true q = vertex-right p q
       go true p false q =
           simp (p, q) (fault-law before n partDigits OutOfBounds t (λ b f r z.
           let step = vertexFrame before (word (b ∷ f) 1) (word (b ∷ f) 3) in

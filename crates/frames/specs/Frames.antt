@@ -8,7 +8,7 @@ use Rattle.meaning.specs.Lists.{pick}
 use Rattle.meaning.specs.Bounds.{mostTasks}
 use Rattle.meaning.specs.Text.{lineFeed, ringTo, gearTo}
 use Rattle.kinds.specs.declared.Refusal.{Refusal}
-use Rattle.kinds.specs.declared.Refusal.the-variants.{BadLine, WrongFrame, OutOfBounds, DeadlineOverSeparation, EdgeNotAfter, NoEnd}
+use Rattle.kinds.specs.declared.Refusal.the-variants.{BadLine, WrongFrame, OutOfBounds, DeadlineOverSeparation, EdgeNotAfter, NoEnd, JobOverDeadline}
 use Rattle.table.specs.declared.Vertex.{Vertex}
 use Rattle.table.specs.Record.{noVertex}
 use Rattle.table.specs.Inner.{ticks, vertexCells, edgeCells}
@@ -23,7 +23,7 @@ use Rattle.frames.specs.declared.Form.the-variants.{Plain, Ring, Gears}
 use Rattle.frames.specs.declared.Head.{Head}
 use Rattle.frames.specs.declared.TaskOrEndLine.{TaskOrEndLine}
 use Rattle.frames.specs.declared.TaskOrEndLine.the-variants.{TaskTaken, EndTaken, FrameRefused}
-use Rattle.rules.specs.Rules.{taskIn, vertexIn, edgeIn, linkIn, edgeSpaced, edgeAfter}
+use Rattle.rules.specs.Rules.{taskIn, vertexIn, edgeIn, linkIn, jobInTime, edgeSpaced, edgeAfter}
 use Rattle.digits.specs.Digits.{pairAt, wordAt, frameAt, digitCount}
 
 -- ---- the digits of each frame's line, and the bytes of the line
@@ -103,7 +103,9 @@ unfoldable pub vertexLine : List ℕ → VertexLine
 vertexLine t =
     pick (startsWith t 50 partDigits)
     (pick (vertexIn (vertexE t) (vertexD t))
+    (pick (jobInTime (vertexE t) (vertexD t))
     (VertexTaken (vertexCells (vertexE t) (vertexD t)))
+    (VertexRefused JobOverDeadline))
     (VertexRefused (faultOf t partDigits OutOfBounds)))
     (VertexRefused (faultOf t partDigits WrongFrame))
 
@@ -140,9 +142,11 @@ unfoldable pub linkLine : List ℕ → LinkLine
 linkLine t =
     pick (startsWith t 54 linkDigits)
     (pick (linkIn (vertexE t) (vertexD t) (linkP t))
+    (pick (jobInTime (vertexE t) (vertexD t))
     (pick (edgeSpaced (vertexD t) (linkP t))
     (LinkTaken (vertexCells (vertexE t) (vertexD t)) (ticks (linkP t)))
     (LinkRefused DeadlineOverSeparation))
+    (LinkRefused JobOverDeadline))
     (LinkRefused (faultOf t linkDigits OutOfBounds)))
     (LinkRefused (faultOf t linkDigits WrongFrame))
 

@@ -13,6 +13,7 @@ use kinds::VertexNumber;
 use rules::edge_after;
 use rules::edge_in;
 use rules::edge_spaced;
+use rules::job_in_time;
 use rules::link_in;
 use rules::task_in;
 use rules::vertex_in;
@@ -134,6 +135,9 @@ pub fn vertex_line(w: &[u16; 256], text: &[u8]) -> VertexLine
     if !vertex_in(e, d) {
         return VertexLine::VertexRefused(fault(w, text, PART_DIGITS, Refusal::OutOfBounds));
     }
+    if !job_in_time(e, d) {
+        return VertexLine::VertexRefused(Refusal::JobOverDeadline);
+    }
     VertexLine::VertexTaken(Vertex {
         e: Ticks(e as u16),
         d: Ticks(d as u16),
@@ -189,6 +193,9 @@ pub fn link_line(w: &[u16; 256], text: &[u8]) -> LinkLine
     let p = word_at(w, text, 10);
     if !link_in(e, d, p) {
         return LinkLine::LinkRefused(fault(w, text, LINK_DIGITS, Refusal::OutOfBounds));
+    }
+    if !job_in_time(e, d) {
+        return LinkLine::LinkRefused(Refusal::JobOverDeadline);
     }
     if !edge_spaced(d, p) {
         return LinkLine::LinkRefused(Refusal::DeadlineOverSeparation);

@@ -8,6 +8,7 @@ use Rattle.meaning.specs.Bounds.{mostTasks, mostVertices}
 use Rattle.meaning.specs.Text.{Reading, readable, unreadable, read}
 use Rattle.meaning.specs.Writing.{Writing, writable, unwritable, writing}
 use Rattle.meaning.specs.Whole.{Counts, counted, countsOf, verdicts, tableAnswer}
+use Rattle.meaning.proofs.Readable.{row-least}
 use Rattle.meaning.proofs.Demands.{readable-sound, text-refused}
 use Rattle.meaning.proofs.Counts.{counts-all, vertices-few}
 use Rattle.kinds.specs.Numbers.{verdictNumbers, latenessNumbers}
@@ -62,7 +63,7 @@ table-unpacked text b work r work′ p =
         let a = counts-all ts b (length work) in
         let f = vertices-few ts (readable-sound text ts e) in
         counts-unpacked (countsOf (verdicts ts b (length work))) (omega (arith, a, f))
-    go (unreadable k n) e = let t = text-refused text k n e in (t .0, omega (arith, t .3), omega (arith, t .3))
+    go (unreadable k n) e = let t = text-refused text k n e in (row-least (omega arith) (t .0), omega (arith, t .2), omega (arith, t .2))
 
 pub write-settled : WriteToldSettled
 write-settled cells before r s after other p q = (p .number ∙ sym (q .number), p .area ∙ sym (q .area))

@@ -22,7 +22,7 @@ use Rattle.meaning.proofs.Answers.{sound-higher, misses-witness, misses-says, m
 use Rattle.meaning.proofs.Answers.{unfinished-short}
 use Rattle.meaning.proofs.Answers.{few-groups, more-groups}
 use Rattle.meaning.proofs.Latest.{worst-is, worst-alone}
-use Rattle.meaning.proofs.Refusals.{some-execution}
+use Rattle.meaning.proofs.Refusals.{admitted-sound}
 use Rattle.meaning.proofs.Counts.{counts-all, meets-mono, misses-mono}
 use Rattle.kinds.specs.declared.Refusal.{Refusal}
 use Rattle.kinds.specs.declared.Verdict.{Verdict}
@@ -220,7 +220,7 @@ own-some : (x : Call) (ts : Table) → read (x .text) ≡ readable ts → (c : �
 own-some x ts q c e =
     let p = sym (on-text x q) ∙ says-meets (said x) c (says x e) in
     let g = judged-given (x .asked) ts (x .i) (x .v) (x .b) (length (x .work)) (length (x .wit)) (meets c) p tt in
-    some-execution ts (readable-sound (x .text) ts q) (x .i) (x .v) (length (x .work)) (length (x .wit)) (g .0)
+    omega (arith, admitted-sound ts (readable-sound (x .text) ts q) (x .i) (x .v) (length (x .work)) (length (x .wit)) (g .0) .someE)
 
 -- and so the text has one
 reads-table : (x : Call) (c : ℕ) → x .r ≡ Meets c → (ts : Table) × (read (x .text) ≡ readable ts)

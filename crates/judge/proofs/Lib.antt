@@ -11,6 +11,7 @@ pub mod Answers
 pub mod Cases
 pub mod Demands
 pub mod MaskedLengths
+pub mod OwnDeadline
 pub mod DeskLines
 pub mod Shown
 pub mod Desking

@@ -1,5 +1,5 @@
--- The customer's demands, said of the judging calls; `proofs/Demands` proves each. "Any bytes, any vertex number, any budget and any lent areas get an
--- answer" is what the check of the calls says: they have no `requires`, and return.
+-- The customer's demands, said of the judging calls; `proofs/Demands`, `proofs/MaskedLengths` and `proofs/OwnDeadline` prove them. "Any bytes, any vertex
+-- number, any budget and any lent areas get an answer" is what the check of the calls says: they have no `requires`, and return.
 use mathlib.Core.Path.{_≡_}
 use Prim.Native.Nat.{ℕ, _-_, _*_, _≤_, _<_}
 use mathlib.Core.Option.{Option, none, some}
@@ -9,7 +9,7 @@ use Rattle.meaning.specs.Table.{Table, taskAt, higher}
 use Rattle.meaning.specs.Text.{readable, unreadable, read}
 use Rattle.meaning.specs.Paths.{Path, load, pathsOf}
 use Rattle.meaning.specs.Groups.{P}
-use Rattle.meaning.specs.Verdict.{cellsOf, Asked, plain, latest, B, ownE, topAt, C}
+use Rattle.meaning.specs.Verdict.{cellsOf, Asked, plain, latest, B, ownE, deadline, topAt, C}
 use Rattle.meaning.specs.Areas.{workNeed, zeroed, written}
 use Rattle.meaning.specs.Judge.{Row, refusal}
 use Rattle.meaning.specs.Whole.{uncounted, countsOf, verdicts}
@@ -162,6 +162,15 @@ pub record MaskedLengths : Type 0 where
   pub never-earlier : (ts us : Table) → SameJobs ts us → (i v : ℕ) → B ts i ≤ B us i → (n n′ : ℕ) (ws ws′ : List Path)
       → Worst ts i v n ws → Worst us i v n′ ws′ → n ≤ n′
 
+-- ---- a job longer than its own deadline
+
+-- "Masked time isn't counted here; a vertex whose e + B exceeds d is still judged, and misses", unless a row of 8 to 11 refuses it or the budget is too small.
+-- Since no e of a readable table exceeds its d, no vertex misses that has no task above it and no masked time below.
+pub record OwnDeadline : Type 0 where
+  pub masked-misses : (x : Call) (ts : Table) → Means x ts → refusedBy x ts ≡ none → groups x ts ≤ x .b → deadline ts (x .i) (x .v) < ownE ts (x .i) (x .v)
+      → (n : ℕ) × (x .r ≡ Misses (groups x ts) n)
+  pub alone-never : (x : Call) (ts : Table) → Means x ts → higher ts (x .i) ≡ [] → B ts (x .i) ≡ 0 → (c n : ℕ) → x .r ≡ Misses c n → ⊥
+
 -- ---- a whole table
 
 -- A call of `judge_table`.
@@ -173,7 +182,7 @@ pub record TableCall : Type 0 where
   pub work′ : List ℕ
   pub promised : TableJudged text b work r work′
 
--- "Judging a whole table first checks the text (1 to 7, nothing changed)."
+-- "Judging a whole table first checks the text (1 to 7, nothing changed)." By wish 6 it can get 13, too.
 pub record TextFirst : Type 0 where
   pub bad-table : (x : TableCall) (k n : ℕ) → read (x .text) ≡ unreadable k n → answerOf (x .r) ≡ uncounted k n
   pub unchanged : (x : TableCall) (at : RefusedAt) → x .r ≡ Whole.Refused at → x .work′ ≡ x .work

@@ -98,7 +98,7 @@ pub fn latest(
 }
 
 // "Judging a whole table first checks the text (1 to 7, nothing changed). [..] Zeroed from the front are as many work cells as the largest need among
-// vertices not refused."
+// vertices not refused." By wish 6 the text can get 13, too.
 pub fn judge_table(text: &[u8], budget: u32, work: &mut [u32]) -> TableVerdict
     ensures { λ r. ⌜ TableJudged (now (text .entry)) budget (now (work .entry)) r (now (work .exit)) ⌝ }
 {

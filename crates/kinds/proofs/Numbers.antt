@@ -5,7 +5,7 @@ use native.Mathlib.Omega.{arith}
 use mathlib.Core.List.{List, [], _∷_}
 use Rattle.kinds.specs.declared.Refusal.{Refusal}
 use Rattle.kinds.specs.declared.Refusal.the-variants.{BadLine, WrongFrame, OutOfBounds, DeadlineOverSeparation, EdgeNotAfter, NoEnd, BytesAfterEnd}
-use Rattle.kinds.specs.declared.Refusal.the-variants.{NoSuchVertex, TooManyPaths, WorkTooShort, WitnessTooShort, InputTooLong}
+use Rattle.kinds.specs.declared.Refusal.the-variants.{NoSuchVertex, TooManyPaths, WorkTooShort, WitnessTooShort, InputTooLong, JobOverDeadline}
 use Rattle.kinds.specs.declared.Verdict.{Verdict}
 use Rattle.kinds.specs.declared.Verdict.the-variants.{Meets, Misses, Unfinished, Refused}
 use Rattle.kinds.specs.declared.Lateness.{Lateness}
@@ -18,7 +18,7 @@ abbrev pub refusalOf : ℕ → Refusal
 refusalOf n =
     getD
     (BadLine ∷ BadLine ∷ WrongFrame ∷ OutOfBounds ∷ DeadlineOverSeparation ∷ EdgeNotAfter ∷ NoEnd
-    ∷ BytesAfterEnd ∷ NoSuchVertex ∷ TooManyPaths ∷ WorkTooShort ∷ WitnessTooShort ∷ InputTooLong ∷ [])
+    ∷ BytesAfterEnd ∷ NoSuchVertex ∷ TooManyPaths ∷ WorkTooShort ∷ WitnessTooShort ∷ InputTooLong ∷ JobOverDeadline ∷ [])
     n BadLine
 
 pub refusal-of-number : (r : Refusal) → refusalOf (refusalNumber r) ≡ r
@@ -34,6 +34,7 @@ refusal-of-number TooManyPaths = refl
 refusal-of-number WorkTooShort = refl
 refusal-of-number WitnessTooShort = refl
 refusal-of-number InputTooLong = refl
+refusal-of-number JobOverDeadline = refl
 
 pub number-some : (r : Refusal) → 1 ≤ refusalNumber r
 number-some BadLine = omega arith
@@ -48,11 +49,12 @@ number-some TooManyPaths = omega arith
 number-some WorkTooShort = omega arith
 number-some WitnessTooShort = omega arith
 number-some InputTooLong = omega arith
+number-some JobOverDeadline = omega arith
 
 pub same-refusal : (r s : Refusal) → refusalNumber r ≡ refusalNumber s → r ≡ s
 same-refusal r s q = sym (refusal-of-number r) ∙ ap refusalOf q ∙ refusal-of-number s
 
--- the text's rows, 1 to 7
+-- the text's rows from 1 to 7
 pub number-of-refusal : (k : ℕ) → 1 ≤ k → k ≤ 7 → refusalNumber (refusalOf k) ≡ k
 number-of-refusal zero l h = absurd (omega arith)
 number-of-refusal (suc zero) l h = refl

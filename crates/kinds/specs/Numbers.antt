@@ -3,7 +3,7 @@ use Prim.Native.Nat.{ℕ}
 use mathlib.Core.List.{List, [], _∷_}
 use Rattle.kinds.specs.declared.Refusal.{Refusal}
 use Rattle.kinds.specs.declared.Refusal.the-variants.{BadLine, WrongFrame, OutOfBounds, DeadlineOverSeparation, EdgeNotAfter, NoEnd, BytesAfterEnd}
-use Rattle.kinds.specs.declared.Refusal.the-variants.{NoSuchVertex, TooManyPaths, WorkTooShort, WitnessTooShort, InputTooLong}
+use Rattle.kinds.specs.declared.Refusal.the-variants.{NoSuchVertex, TooManyPaths, WorkTooShort, WitnessTooShort, InputTooLong, JobOverDeadline}
 use Rattle.kinds.specs.declared.Verdict.{Verdict}
 use Rattle.kinds.specs.declared.Verdict.the-variants.{Meets, Misses, Unfinished, Refused}
 use Rattle.kinds.specs.declared.Lateness.{Lateness}
@@ -23,6 +23,7 @@ refusalNumber TooManyPaths = 9
 refusalNumber WorkTooShort = 10
 refusalNumber WitnessTooShort = 11
 refusalNumber InputTooLong = 12
+refusalNumber JobOverDeadline = 13
 
 -- the desk's 0 to 3, then the values: the count; the count and the cells written; the budget; the refusal's number and its place
 abbrev pub verdictNumbers : Verdict → List ℕ

@@ -46,6 +46,7 @@ pub enum Refusal {
     WorkTooShort,
     WitnessTooShort,
     InputTooLong,
+    JobOverDeadline,
 }
 
 // The refusal, and what is returned with it: a line, a task, the cells or bytes needed, or zero.
@@ -87,6 +88,7 @@ pub fn refusal_number(r: Refusal) -> u8
         Refusal::WorkTooShort => 10,
         Refusal::WitnessTooShort => 11,
         Refusal::InputTooLong => 12,
+        Refusal::JobOverDeadline => 13,
     }
 }
 

@@ -23,7 +23,7 @@ use Rattle.meaning.proofs.Spots.{all-order}
 pub readable-sound : ReadableSound
 readable-sound = read-sound
 
--- a refusal of the text has a number from 1 to 7 and a line from 1 to 362
+-- a refusal of the text has a number from 1 to 7 or 13, and a line from 1 to 362
 pub text-refused : (text : List ℕ) (k n : ℕ) → read text ≡ unreadable k n → InText k n
 text-refused = read-refused
 

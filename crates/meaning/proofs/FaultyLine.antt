@@ -11,15 +11,15 @@ use Rattle.meaning.specs.Text.{framesFrom, read}
 use Rattle.meaning.specs.Texts.{FirstFaulty}
 use Rattle.meaning.proofs.Readable.{framesStep, step-frames, readStep, step-read, read-refused}
 
-row-is : {j k i n : ℕ} → unreadable j i ≡ unreadable k n → j ≡ k
+pub row-is : {j k i n : ℕ} → unreadable j i ≡ unreadable k n → j ≡ k
 row-is e = cc
 
-line-is : {j k i n : ℕ} → unreadable j i ≡ unreadable k n → i ≡ n
+pub line-is : {j k i n : ℕ} → unreadable j i ≡ unreadable k n → i ≡ n
 line-is e = cc
 
 -- ---- no refusal names a line that was read before
 
-abbrev From : ℕ → Reading → Type 0
+abbrev pub From : ℕ → Reading → Type 0
 From b (readable ts) = Unit {0}
 From b (unreadable k n) = b ≤ n
 
@@ -27,28 +27,29 @@ from-less : (b : ℕ) (r : Reading) → From (suc b) r → From b r
 from-less b (readable ts) h = tt
 from-less b (unreadable k n) h = omega (arith, h)
 
-end-from : (ts : Table) (b : ℕ) (ls : List Line) → From b (atEnd ts (suc b) ls)
+end-from : {X : Type 0} (ts : Table) (b : ℕ) (ls : List X) → From b (atEnd ts (suc b) ls)
 end-from ts b [] = tt
 end-from ts b (l ∷ ls) = omega arith
 
-from-line : (s : Begun) (b : ℕ) (ls : List Line) → From b (readFrom s b ls)
-from-line s b [] = omega arith
-from-line s b (l ∷ ls) = subst (From b) (sym (step-read s b l ls)) (go (λ s′. from-line s′ (suc b) ls) (stepAt s (frameOf l)))
+pub from-line : {X : Type 0} (frame : X → Option (List ℕ)) (s : Begun) (b : ℕ) (ls : List X) → From b (framesFrom frame s b ls)
+from-line frame s b [] = omega arith
+from-line {X} frame s b (l ∷ ls) =
+    subst (From b) (sym (step-frames frame s b l ls)) (go (λ s′. from-line frame s′ (suc b) ls) (stepAt s (frame l)))
   where
-    go : ((s′ : Begun) → From (suc b) (readFrom s′ (suc b) ls)) → (r : Step) → From b (readStep r b ls)
-    go ih (on s′) = from-less b (readFrom s′ (suc b) ls) (ih s′)
+    go : ((s′ : Begun) → From (suc b) (framesFrom frame s′ (suc b) ls)) → (r : Step) → From b (framesStep frame r b ls)
+    go ih (on s′) = from-less b (framesFrom frame s′ (suc b) ls) (ih s′)
     go ih (over ts) = end-from ts b ls
     go ih (wrong k) = omega arith
 
 -- a refusal of a frame, and not for want of one or for bytes behind the end, names the line of one of them
-pub frame-line : {X : Type 0} (frame : X → Option (List ℕ)) (s : Begun) (n : ℕ) (ls : List X) (k m : ℕ) → framesFrom frame s n ls ≡ unreadable k m → k ≤ 5
-    → m < n + length ls
-frame-line frame s n [] k m e h = absurd (omega (arith, row-is e, h))
+pub frame-line : {X : Type 0} (frame : X → Option (List ℕ)) (s : Begun) (n : ℕ) (ls : List X) (k m : ℕ) → framesFrom frame s n ls ≡ unreadable k m
+    → (6 ≤ k → k ≤ 7 → ⊥) → m < n + length ls
+frame-line frame s n [] k m e h = absurd (h (omega (arith, row-is e)) (omega (arith, row-is e)))
 frame-line {X} frame s n (l ∷ ls) k m e h = go (stepAt s (frame l)) (λ z q. frame-line frame z (suc n) ls k m q h) (sym (step-frames frame s n l ls) ∙ e)
   where
     ended : (ts : Table) (xs : List X) → atEnd ts (suc n) xs ≡ unreadable k m → m < n + length (l ∷ ls)
     ended ts [] q = absurd (let z : _≡_ {A = ℕ} 0 1 = cc in omega arith)
-    ended ts (x ∷ xs) q = absurd (omega (arith, row-is q, h))
+    ended ts (x ∷ xs) q = absurd (h (omega (arith, row-is q)) (omega (arith, row-is q)))
 
     go : (r : Step) → ((z : Begun) → framesFrom frame z (suc n) ls ≡ unreadable k m → m < suc n + length ls) → framesStep frame r n ls ≡ unreadable k m
         → m < n + length (l ∷ ls)
@@ -90,7 +91,7 @@ same-from s b j (l ∷ ls) (o ∷ others) h q =
     go : ((s′ : Begun) (i : ℕ) → By (suc b + i) (readFrom s′ (suc b) ls) → take (suc i) others ≡ take (suc i) ls
         → readFrom s′ (suc b) others ≡ readFrom s′ (suc b) ls)
         → (r : Step) (i : ℕ) → By (b + i) (readStep r b ls) → take i others ≡ take i ls → readStep r b others ≡ readStep r b ls
-    go ih (on s′) zero k p = absurd (by-from b (readFrom s′ (suc b) ls) (from-line s′ (suc b) ls) k)
+    go ih (on s′) zero k p = absurd (by-from b (readFrom s′ (suc b) ls) (from-line frameOf s′ (suc b) ls) k)
     go ih (on s′) (suc i) k p = ih s′ i (subst (λ (m : ℕ). By m (readFrom s′ (suc b) ls)) (omega arith) k) p
     go ih (over ts) i k p = end-same ts b i ls others k p
     go ih (wrong m) i k p = refl
@@ -100,11 +101,11 @@ same-from s b j (l ∷ ls) (o ∷ others) h q =
 -- refused by a line, or for want of one, at line m or later
 abbrev Past : ℕ → Reading → Type 0
 Past m (readable ts) = ⊥
-Past m (unreadable k n) = (k ≤ 6) × (m ≤ n)
+Past m (unreadable k n) = (k ≡ 7 → ⊥) × (m ≤ n)
 
 end-past : (ts : Table) (m n : ℕ) (ls : List Line) → Past m (atEnd ts n ls) → ⊥
 end-past ts m n [] h = h
-end-past ts m n (l ∷ ls) h = omega (arith, h .0)
+end-past ts m n (l ∷ ls) h = h .0 refl
 
 cut-from : (s : Begun) (b m : ℕ) (ls : List Line) → Past (b + m) (readFrom s b ls) → readFrom s b (take m ls) ≡ unreadable 6 (b + m)
 cut-from s b zero ls h = ap (unreadable 6) (omega arith)
@@ -125,12 +126,12 @@ cut-from s b (suc m) (l ∷ ls) h =
 
 behind : (text other : List ℕ) (k n : ℕ) → read text ≡ unreadable k n → take n (linesOf other) ≡ take n (linesOf text) → read other ≡ unreadable k n
 unfolding read
-behind text other k zero q p = absurd (omega (arith, read-refused text k 0 q .2))
+behind text other k zero q p = absurd (omega (arith, read-refused text k 0 q .1))
 behind text other k (suc j) q p =
     let by : By (1 + j) (unreadable k (suc j)) = omega arith in
     same-from nothing 1 j (linesOf text) (linesOf other) (subst (By (1 + j)) (sym q) by) p ∙ q
 
-before : (text other : List ℕ) (k n m : ℕ) → read text ≡ unreadable k n → k ≤ 6 → m < n → linesOf other ≡ take m (linesOf text)
+before : (text other : List ℕ) (k n m : ℕ) → read text ≡ unreadable k n → (k ≡ 7 → ⊥) → m < n → linesOf other ≡ take m (linesOf text)
     → read other ≡ unreadable 6 (suc m)
 unfolding read
 before text other k n m q line less p =

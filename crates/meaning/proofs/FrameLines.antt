@@ -202,7 +202,7 @@ read-refused-lines fs h k m l e = lines-refused nothing 1 fs h k m l (sym (ap (f
 
 -- ---- the frames of a readable text
 
-apart : {A : Type 0} {f : List ℕ} → none ≡ some f → A
+pub apart : {A : Type 0} {f : List ℕ} → none ≡ some f → A
 apart e = absurd (let z : _≡_ {A = ℕ} 0 1 = cc in omega arith)
 
 pub refused-apart : {A : Type 0} {ts : Table} {k n : ℕ} → unreadable k n ≡ readable ts → A

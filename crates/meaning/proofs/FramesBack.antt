@@ -2,24 +2,23 @@
 use mathlib.Core.Path.{_≡_, refl, sym, ap, ap₂, subst, _∙_}
 use Prim.Native.Nat.{ℕ, zero, suc, _+_, _*_, _/_, _%_, _≤_, _<_}
 use native.Mathlib.Omega.{arith}
-use mathlib.Core.Bool.{true, false, _&&_}
+use mathlib.Core.Bool.{true, false}
 use mathlib.Core.Option.{Option, none, some}
 use mathlib.Core.List.{List, [], _∷_, _++_, map, append-assoc, List·Memᴰ, List·Memᴰ·head, Memᴰ·append-left, Memᴰ·append-right}
 use lib.ListN.{length, getD}
-use lib.Dec.{T, leb, ltb, eqb, ltb→lt, leb→le, eqb→eq}
+use lib.Dec.{T, eqb, eqb→eq}
 use borrow.Author.Tests.{ne-eqb}
-use Rattle.meaning.specs.Lists.{pick, gather, below}
-use Rattle.meaning.specs.Bounds.{mostTasks, mostVertices, mostEdges, largestE, largestD, largestP, largestM}
-use Rattle.meaning.specs.Table.{Vertex, Edge, Table, vertex, edge, task, noVertex}
-use Rattle.meaning.specs.Text.{line, isFrame, word, Begun, begun, linked, nothing, closed, Step, on, over, wrong, gate, within}
-use Rattle.meaning.specs.Text.{taskFrame, maskFits, vertexFrame, afterLast, edgeFrame, ringTo, gearTo, vendorFrame, linkFrame, wantedVertex}
+use Rattle.meaning.specs.Lists.{gather, below}
+use Rattle.meaning.specs.Table.{Vertex, Edge, Table, vertex, edge, task}
+use Rattle.meaning.specs.Text.{line, isFrame, word, Begun, begun, linked, nothing, closed, Step, on, over, wrong}
+use Rattle.meaning.specs.Text.{taskFrame, vertexFrame, edgeFrame, vendorFrame, linkFrame}
 use Rattle.meaning.specs.Text.{framed, stepAt, readable, atEnd, framesFrom, read}
 use Rattle.meaning.specs.Rings.{Link, Form, plain, ring, gears, taskOf, frameOfLink, framesOfForm, framesOfForms}
 use Rattle.meaning.specs.Rings.{textOfForms, PlainFrame, Plain}
 use Rattle.meaning.specs.Writing.{inTwo, frameOfTask, frameOfVertex, frameOfEdge, frameOfEnd, framesOfTask, framesOf, textOf}
 use Rattle.meaning.proofs.Lists.{both-left, both-right, cells-shift}
 use Rattle.meaning.proofs.Readable.{framesStep, step-frames}
-use Rattle.meaning.proofs.FramesKeep.{gate-step, pick-step}
+use Rattle.meaning.proofs.FrameSteps.{task-each, vertex-each, edge-each, vendor-each, link-each, vertex-wanted, edge-wanted, task-wanted}
 use Rattle.meaning.proofs.FrameLines.{Bytes, AllFramed, refused-apart, TextFrames, readable-frames}
 use Rattle.meaning.proofs.FormsBack.{Described, WholeForms, Vendor, aRing, aGearTable, LinksSoFar, Open, SoFar}
 use Rattle.meaning.proofs.FormsBack.{part-begin, open-begin, links-begin, part-more, withVertex, vertex-more, withEdge, edge-more}
@@ -37,7 +36,7 @@ bytes-at (a ∷ f) zero h = h .0
 bytes-at (a ∷ f) (suc i) h = bytes-at f i (h .1)
 
 module _ (κ m : ℕ) (f : List ℕ) (t : T (isFrame κ m f)) where
-  kind-is : getD f 0 0 ≡ κ
+  pub kind-is : getD f 0 0 ≡ κ
   kind-is = eqb→eq (getD f 0 0) κ (both-left (eqb (getD f 0 0) κ) (eqb (length f) m) t)
 
   cells-are : f ≡ map (λ (j : ℕ). getD f j 0) (below m)
@@ -96,41 +95,24 @@ module _ (s : Begun) (gs : List (List ℕ)) (f : List ℕ) (r : SoFar s gs) (h :
   vertex-after : Open s none (r .part) → 1 ≤ s .wantV → T (isFrame 2 5 f) → After gs f (vertexFrame s (word f 1) (word f 3))
   vertex-after o w t =
       let x : Vertex = vertex (word f 1) (word f 3) in
-      let z = withVertex s x in
-      gate-step (After gs f) (within 1 largestE (word f 1) && within 1 largestD (word f 3)) 3 (gate (maskFits s (z .vertices)) 3 (on z)) tt
-      (λ a. gate-step (After gs f) (maskFits s (z .vertices)) 3 (on z) tt
-      (λ b. part-more s z gs f (frameOfVertex x) r (vertex-back f h t) refl (vertex-more s (r .part) x o w)))
+      vertex-each (After gs f) s (word f 1) (word f 3) (λ i. tt) (λ i. tt) (λ i. tt)
+      (λ i fits. part-more s (withVertex s x) gs f (frameOfVertex x) r (vertex-back f h t) refl (vertex-more s (r .part) x o w))
 
   edge-after : Open s none (r .part) → s .wantV ≡ 0 → 1 ≤ s .wantE → T (isFrame 3 5 f)
       → After gs f (edgeFrame s (getD f 1 0) (getD f 2 0) (word f 3))
   edge-after o v w t =
       let x : Edge = edge (getD f 1 0) (getD f 2 0) (word f 3) in
-      let z = withEdge s x in
-      let from = ltb (getD f 1 0) (length (s .vertices)) in
-      let to = ltb (getD f 2 0) (length (s .vertices)) in
-      let b4 = leb (getD (s .vertices) (getD f 1 0) noVertex .d) (word f 3) in
-      let b5 = afterLast (s .edges) x in
-      gate-step (After gs f) (from && to && within 1 largestP (word f 3)) 3 (gate b4 4 (gate b5 5 (on z))) tt
-      (λ a. gate-step (After gs f) b4 4 (gate b5 5 (on z)) tt
-      (λ b. gate-step (After gs f) b5 5 (on z) tt
-      (λ c.
-      let some = ltb→lt (getD f 1 0) (length (s .vertices)) (both-left from to (both-left (from && to) (within 1 largestP (word f 3)) a)) in
-      part-more s z gs f (frameOfEdge x) r (edge-back f h t) refl (edge-more s (r .part) x o v w (omega arith)))))
+      edge-each (After gs f) s (getD f 1 0) (getD f 2 0) (word f 3) tt tt tt
+      (λ i after.
+      let some = i .fromIn in
+      part-more s (withEdge s x) gs f (frameOfEdge x) r (edge-back f h t) refl (edge-more s (r .part) x o v w (omega arith)))
 
   link-after : (to : ℕ → ℕ) → LinksSoFar s to (r .part) → 1 ≤ s .wantV → T (isFrame 6 7 f)
       → After gs f (linkFrame s to (word f 1) (word f 3) (word f 5))
   link-after to o w t =
       let x : Link = link (word f 1) (word f 3) (word f 5) in
-      let z = withLink s to x in
-      gate-step (After gs f) (within 1 largestE (word f 1) && within 1 largestD (word f 3) && within 1 largestP (word f 5)) 3
-      (gate (leb (word f 3) (word f 5)) 4 (on z)) tt
-      (λ a. gate-step (After gs f) (leb (word f 3) (word f 5)) 4 (on z) tt
-      (λ b. part-more s z gs f (frameOfLink x) r (link-back f h t) refl (link-more s to (r .part) x o w)))
-
-  wanted-after : (l : Option (ℕ → ℕ)) → Open s l (r .part) → 1 ≤ s .wantV → After gs f (wantedVertex s l f)
-  wanted-after none o w = pick-step (After gs f) (isFrame 2 5 f) (vertexFrame s (word f 1) (word f 3)) (wrong 2) (vertex-after o w) tt
-  wanted-after (some to) o w =
-      pick-step (After gs f) (isFrame 6 7 f) (linkFrame s to (word f 1) (word f 3) (word f 5)) (wrong 2) (link-after to o w) tt
+      link-each (After gs f) s to (word f 1) (word f 3) (word f 5) (λ i. tt) (λ i q. tt) (λ i. tt)
+      (λ i. part-more s (withLink s to x) gs f (frameOfLink x) r (link-back f h t) refl (link-more s to (r .part) x o w))
 
   edge-wanted-after : (l : Option (ℕ → ℕ)) → Open s l (r .part) → s .wantV ≡ 0 → 1 ≤ s .wantE → T (isFrame 3 5 f)
       → After gs f (edgeFrame s (getD f 1 0) (getD f 2 0) (word f 3))
@@ -146,22 +128,16 @@ module _ (s : Begun) (gs : List (List ℕ)) (f : List ℕ) (c : WholeForms gs (c
   task-after least m back =
       let nv = getD f 1 0 in
       let ne = getD f 2 0 in
-      let counts = within 1 mostVertices nv && leb ne mostEdges in
       let z = begun (closed s) (task m [] []) nv ne in
-      gate-step (After gs f) (counts && within least largestM m) 3 (on z) tt
-      (λ t.
-      let fits = both-left (within 1 mostVertices nv) (leb ne mostEdges) (both-left counts (within least largestM m) t) in
-      part-begin z gs f (frameOfTask m nv ne)
-      (back (leb→le least m (both-left (leb least m) (leb m largestM) (both-right counts (within least largestM m) t)))) c
-      (λ k. refl, open-begin m nv ne (leb→le 1 nv (both-left (leb 1 nv) (leb nv mostVertices) fits))))
+      task-each (After gs f) s nv ne least m tt
+      (λ some v-in e-in low m-in. part-begin z gs f (frameOfTask m nv ne) (back low) c (λ k. refl, open-begin m nv ne some))
 
   vendor-after : (v : Vendor) → T (isFrame (v .kind) 2 f) → After gs f (vendorFrame s (v .to) (getD f 1 0))
   vendor-after v t =
       let n = getD f 1 0 in
       let z = linked (closed s) (task 0 [] []) (v .to n) n in
-      gate-step (After gs f) (within 1 mostVertices n) 3 (on z) tt
-      (λ a. part-begin z gs f (v .kind ∷ n ∷ []) (count-back (v .kind) f t) c
-      (links-begin (closed s) v n (leb→le 1 n (both-left (leb 1 n) (leb n mostVertices) a))))
+      vendor-each (After gs f) s (v .to) n tt
+      (λ some v-in. part-begin z gs f (v .kind ∷ n ∷ []) (count-back (v .kind) f t) c (links-begin (closed s) v n some))
 
   over-after : T (isFrame 0 1 f) → After gs f (over (closed s))
   over-after t =
@@ -173,28 +149,15 @@ module _ (s : Begun) (gs : List (List ℕ)) (f : List ℕ) (c : WholeForms gs (c
 
 framed-after : (s : Begun) (gs : List (List ℕ)) (v e : ℕ) (f : List ℕ) → SoFar s gs → Bytes f → s .wantV ≡ v → s .wantE ≡ e
     → After gs f (framed s v e f)
-framed-after s gs (suc v) e f r h p q = wanted-after s gs f r h (s .leads) (r .held) (omega arith)
-framed-after s gs zero (suc e) f r h p q =
-    pick-step (After gs f) (isFrame 3 5 f) (edgeFrame s (getD f 1 0) (getD f 2 0) (word f 3)) (wrong 2)
-    (edge-wanted-after s gs f r h (s .leads) (r .held) p (omega arith)) tt
+framed-after s gs (suc v) e f r h p q =
+    vertex-wanted (After gs f) s (s .leads) f tt
+    (λ l. vertex-after s gs f r h (subst (λ (x : Option (ℕ → ℕ)). Open s x (r .part)) l (r .held)) (omega arith))
+    (λ to l. link-after s gs f r h to (subst (λ (x : Option (ℕ → ℕ)). Open s x (r .part)) l (r .held)) (omega arith))
+framed-after s gs zero (suc e) f r h p q = edge-wanted (After gs f) s e f tt (edge-wanted-after s gs f r h (s .leads) (r .held) p (omega arith))
 framed-after s gs zero zero f r h p q =
     let c = closed-whole s gs r p q in
-    let few = ltb (length (closed s)) mostTasks in
-    let some = ltb 0 (length (closed s)) in
-    let end = pick (isFrame 0 1 f && some) (over (closed s)) (wrong 2) in
-    let gears = pick (isFrame 7 2 f && few) (vendorFrame s gearTo (getD f 1 0)) end in
-    let rings = pick (isFrame 5 2 f && few) (vendorFrame s ringTo (getD f 1 0)) gears in
-    let masked = taskFrame s (getD f 1 0) (getD f 2 0) 1 (word f 3) in
-    pick-step (After gs f) (isFrame 1 3 f && few) (taskFrame s (getD f 1 0) (getD f 2 0) 0 0) (pick (isFrame 4 5 f && few) masked rings)
-    (λ t. task-after s gs f c 0 0 (λ l. task-back f (both-left (isFrame 1 3 f) few t)))
-    (pick-step (After gs f) (isFrame 4 5 f && few) masked rings
-    (λ t. task-after s gs f c 1 (word f 3) (masked-back f h (both-left (isFrame 4 5 f) few t)))
-    (pick-step (After gs f) (isFrame 5 2 f && few) (vendorFrame s ringTo (getD f 1 0)) gears
-    (λ t. vendor-after s gs f c aRing (both-left (isFrame 5 2 f) few t))
-    (pick-step (After gs f) (isFrame 7 2 f && few) (vendorFrame s gearTo (getD f 1 0)) end
-    (λ t. vendor-after s gs f c aGearTable (both-left (isFrame 7 2 f) few t))
-    (pick-step (After gs f) (isFrame 0 1 f && some) (over (closed s)) (wrong 2)
-    (λ t. over-after s gs f c (both-left (isFrame 0 1 f) some t)) tt))))
+    task-wanted (After gs f) s f tt (λ t i. task-after s gs f c 0 0 (λ l. task-back f t)) (λ t i. task-after s gs f c 1 (word f 3) (masked-back f h t))
+    (λ t i. vendor-after s gs f c aRing t) (λ t i. vendor-after s gs f c aGearTable t) (λ t i. over-after s gs f c t)
 
 -- ---- all frames
 
@@ -236,7 +199,7 @@ forms-back text ts e =
     let r = text-forms text ts t in
     record { forms = r .forms; spelt = t .spelt ∙ ap (gather line) (r .spelt); meant = r .meant }
 
-differ : {A : Type 0} → true ≡ false → A
+pub differ : {A : Type 0} → true ≡ false → A
 differ e = absurd (let z : _≡_ {A = ℕ} 0 1 = cc in omega arith)
 
 -- "those without 05 to 07" have no ring and no gear table

@@ -11,15 +11,17 @@ use lib.ListN.{length, getD, List·getD-append}
 use lib.Seq.{getD-append-seam}
 use lib.Dec.{T, ltb, leb, eqb, leb→le, ltb→lt, eqb→eq}
 use Rattle.meaning.specs.Lists.{pick, Rising}
-use Rattle.meaning.specs.Bounds.{mostTasks, mostVertices, mostEdges, largestE, largestD, largestP, largestM}
+use Rattle.meaning.specs.Bounds.{mostTasks, mostVertices, mostEdges, largestP, largestM}
 use Rattle.meaning.specs.Table.{Vertex, Edge, Task, Table, vertex, edge, task, noVertex, largestEIn}
-use Rattle.meaning.specs.Text.{Begun, begun, linked, closed, Step, on, over, wrong, gate, within}
+use Rattle.meaning.specs.Text.{Begun, closed, Step, on, over, wrong, within}
 use Rattle.meaning.specs.Text.{taskFrame, maskFits, vertexFrame, afterLast, edgeFrame, ringTo, gearTo, vendorFrame, linkFrame}
 use Rattle.meaning.specs.Sound.{SoundVertex, SoundEdge, EdgeBefore, SoundTask, AllSound, SoundTable}
 use Rattle.meaning.specs.Texts.{mostLines, lastLine}
+use Rattle.meaning.specs.Slips.{LineRow}
 use borrow.Author.Tests.{le-leb, le-ltb, ltb-true}
 use Rattle.meaning.proofs.Lists.{both-left, both-right, length-snoc}
 use Rattle.meaning.proofs.Rising.{rising-one, rising-append}
+use Rattle.meaning.proofs.FrameSteps.{task-each, vertex-each, edge-each, vendor-each, link-each}
 
 -- ---- one more at the end of a list
 
@@ -111,31 +113,22 @@ pub record HeldSoFar (n : ℕ) (s : Begun) : Type 0 where
   -- the whole tasks' lines, then the open task's: it has a line of its own as soon as it has or wants a vertex
   pub line : n ≤ mostLines * length (s .tasks) + length (s .vertices) + length (s .edges) + 1 + min 1 (length (s .vertices) + s .wantV)
 
-pub record Number (k : ℕ) : Type 0 where
-  pub low : 1 ≤ k
-  pub high : k ≤ 5
+-- the rows that refuse a line before the end
+abbrev FrameRow : ℕ → Type 0
+FrameRow k = LineRow 1 5 k
 
 -- not allowed here, outside its bounds
-pub not-here : Number 2
-not-here = record { low = omega arith; high = omega arith }
+pub not-here : FrameRow 2
+not-here = inl (omega arith, omega arith)
 
-outside : Number 3
-outside = record { low = omega arith; high = omega arith }
-
--- a step behind a test keeps what it keeps where the test holds, and what its other side keeps
-pub gate-step : (Q : Step → Type 0) (b : Bool) (k : ℕ) (s : Step) → Q (wrong k) → (T b → Q s) → Q (gate b k s)
-gate-step Q true k s i h = h tt
-gate-step Q false k s i h = i
-
-pub pick-step : (Q : Step → Type 0) (b : Bool) (x y : Step) → (T b → Q x) → Q y → Q (pick b x y)
-pick-step Q true x y a c = a tt
-pick-step Q false x y a c = c
+outside : FrameRow 3
+outside = inl (omega arith, omega arith)
 
 -- what a step at line n keeps
 abbrev pub Ok : ℕ → Step → Type 0
 Ok n (on s) = HeldSoFar (suc n) s
 Ok n (over ts) = SoundTable ts × (n < lastLine)
-Ok n (wrong k) = Number k
+Ok n (wrong k) = FrameRow k
 
 -- ---- the task that was just read to its end
 
@@ -180,25 +173,21 @@ module _ (n : ℕ) (ts : List Task) (m : ℕ) (es : List Edge) (v e : ℕ) (l : 
 
 pub task-ok : (n : ℕ) (s : Begun) (v e least m : ℕ) → Closed n (closed s) → length (closed s) < mostTasks → Ok n (taskFrame s v e least m)
 task-ok n s v e least m c h =
-    let counts = within 1 mostVertices v && leb e mostEdges in
-    gate-step (Ok n) (counts && within least largestM m) 3 (on (begun (closed s) (task m [] []) v e)) outside
-    (λ u.
-    let t = both-left counts (within least largestM m) u in
-    let r = both-left (within 1 mostVertices v) (leb e mostEdges) t in
-    let low = leb→le 1 v (both-left (leb 1 v) (leb v mostVertices) r) in
+    task-each (Ok n) s v e least m outside
+    (λ some v-in e-in low m-in.
     record {
       tasks = c .sound;
       taskCount = h;
-      vertexCount = omega (arith, leb→le v mostVertices (both-right (leb 1 v) (leb v mostVertices) r));
-      edgeCount = omega (arith, leb→le e mostEdges (both-right (within 1 mostVertices v) (leb e mostEdges) t));
-      mask = leb→le m largestM (both-right (leb least m) (leb m largestM) (both-right counts (within least largestM m) u));
-      covered = λ z. absurd (omega (arith, z));
+      vertexCount = omega (arith, v-in);
+      edgeCount = omega (arith, e-in);
+      mask = m-in;
+      covered = λ z. absurd (omega (arith, z, some));
       vertices = λ x m. absurd (List·Memᴰ·not-nil m);
       edges = λ x m. absurd (List·Memᴰ·not-nil m);
       rising = tt;
       led = tt;
       first = omega arith;
-      line = omega (arith, c .line);
+      line = omega (arith, c .line, some);
     })
 
 -- behind the last vertex
@@ -208,58 +197,36 @@ fits-last s vs t z = leb→le (s .m) (largestEIn vs) (subst (λ (b : Bool). T (b
 pub within-true : (low high n : ℕ) → low ≤ n → n ≤ high → within low high n ≡ true
 within-true low high n a b = rw (le-leb low n a, le-leb n high b)
 
-vertex-sound : (e d : ℕ) → T (within 1 largestE e) → T (within 1 largestD d) → SoundVertex (vertex e d)
-vertex-sound e d a b =
-    record {
-      someE = leb→le 1 e (both-left (leb 1 e) (leb e largestE) a);
-      mostE = leb→le e largestE (both-right (leb 1 e) (leb e largestE) a);
-      someD = leb→le 1 d (both-left (leb 1 d) (leb d largestD) b);
-      mostD = leb→le d largestD (both-right (leb 1 d) (leb d largestD) b);
-    }
-
 pub vertex-ok : (n : ℕ) (s : Begun) (e d : ℕ) → HeldSoFar n s → 1 ≤ s .wantV → Ok n (vertexFrame s e d)
 vertex-ok n s e d h w =
     let x : Vertex = vertex e d in
     let vs = s .vertices ++ (x ∷ []) in
     let more = length-snoc (s .vertices) x in
-    let end : Step = on (begun (s .tasks) (task (s .m) vs (s .edges)) (s .wantV - 1) (s .wantE)) in
-    gate-step (Ok n) (within 1 largestE e && within 1 largestD d) 3 (gate (maskFits s vs) 3 end) outside
-    (λ t. gate-step (Ok n) (maskFits s vs) 3 end outside
-    (λ u.
-    let a = both-left (within 1 largestE e) (within 1 largestD d) t in
-    let b = both-right (within 1 largestE e) (within 1 largestD d) t in
+    vertex-each (Ok n) s e d (λ i. outside) (λ i. inr refl) (λ i. outside)
+    (λ sound fits.
     record {
       tasks = h .tasks;
       taskCount = h .taskCount;
       vertexCount = omega (arith, h .vertexCount);
       edgeCount = h .edgeCount;
       mask = h .mask;
-      covered = fits-last s vs u;
-      vertices = each-snoc (s .vertices) x (h .vertices) (vertex-sound e d a b);
+      covered = fits-last s vs fits;
+      vertices = each-snoc (s .vertices) x (h .vertices) sound;
       edges = λ y m. edge-snoc (s .vertices) x (length (s .vertices) + s .wantV) (length vs + (s .wantV - 1)) y (h .edges y m) (omega arith);
       rising = h .rising;
       led = tt;
       first = omega arith;
       line = omega (arith, h .line);
-    }))
+    })
 
 pub edge-ok : (n : ℕ) (s : Begun) (f t p : ℕ) → HeldSoFar n s → s .wantV ≡ 0 → 1 ≤ s .wantE → Ok n (edgeFrame s f t p)
 edge-ok n s f t p h w m =
     let x : Edge = edge f t p in
     let more = length-snoc (s .edges) x in
     let vs = s .vertices in
-    let end : Step = on (begun (s .tasks) (task (s .m) vs (s .edges ++ (x ∷ []))) 0 (s .wantE - 1)) in
-    let from = ltb f (length vs) in
-    let to = ltb t (length vs) in
     let same : length vs + s .wantV ≡ length vs + 0 = omega (arith, w) in
-    let b4 = leb (getD vs f noVertex .d) p in
-    let b5 = afterLast (s .edges) x in
-    gate-step (Ok n) (from && to && within 1 largestP p) 3 (gate b4 4 (gate b5 5 end)) outside
-    (λ u. gate-step (Ok n) b4 4 (gate b5 5 end) (record { low = omega arith; high = omega arith })
-    (λ v. gate-step (Ok n) b5 5 end (record { low = omega arith; high = omega arith })
-    (λ r.
-    let ends = both-left (from && to) (within 1 largestP p) u in
-    let fits = both-right (from && to) (within 1 largestP p) u in
+    edge-each (Ok n) s f t p outside (inl (omega arith, omega arith)) (inl (omega arith, omega arith))
+    (λ sound after.
     record {
       tasks = h .tasks;
       taskCount = h .taskCount;
@@ -269,17 +236,17 @@ edge-ok n s f t p h w m =
       covered = λ z. h .covered w;
       vertices = h .vertices;
       edges = each-snoc (s .edges) x (λ y i. subst (λ (k : ℕ). HeldEdge vs k y) same (h .edges y i)) (record {
-        fromIn = ltb→lt f (length vs) (both-left from to ends);
-        toIn = omega (arith, ltb→lt t (length vs) (both-right from to ends));
-        someP = leb→le 1 p (both-left (leb 1 p) (leb p largestP) fits);
-        mostP = leb→le p largestP (both-right (leb 1 p) (leb p largestP) fits);
-        spaced = leb→le (getD vs f noVertex .d) p v;
+        fromIn = sound .fromIn;
+        toIn = omega (arith, sound .toIn);
+        someP = sound .someP;
+        mostP = sound .mostP;
+        spaced = sound .spaced;
       });
-      rising = rising-snoc (s .edges) x (h .rising) r;
+      rising = rising-snoc (s .edges) x (h .rising) after;
       led = tt;
       first = omega arith;
       line = omega (arith, h .line);
-    })))
+    })
 
 -- ---- a ring's and a gear table's
 
@@ -295,23 +262,22 @@ gear-leads n i h = h
 
 pub vendor-ok : (n : ℕ) (s : Begun) (to : ℕ → ℕ → ℕ) (v : ℕ) → Leads (to v) v → Closed n (closed s) → length (closed s) < mostTasks → Ok n (vendorFrame s to v)
 vendor-ok n s to v leads c h =
-    gate-step (Ok n) (within 1 mostVertices v) 3 (on (linked (closed s) (task 0 [] []) (to v) v)) outside
-    (λ t.
-    let low = leb→le 1 v (both-left (leb 1 v) (leb v mostVertices) t) in
+    vendor-each (Ok n) s to v outside
+    (λ some v-in.
     let none : 0 + v ≡ v = omega arith in
     record {
       tasks = c .sound;
       taskCount = h;
-      vertexCount = omega (arith, leb→le v mostVertices (both-right (leb 1 v) (leb v mostVertices) t));
+      vertexCount = omega (arith, v-in);
       edgeCount = omega arith;
       mask = omega arith;
-      covered = λ z. absurd (omega (arith, z));
+      covered = λ z. absurd (omega (arith, z, some));
       vertices = λ x m. absurd (List·Memᴰ·not-nil m);
       edges = λ x m. absurd (List·Memᴰ·not-nil m);
       rising = tt;
       led = (refl, rw none leads, refl);
       first = omega arith;
-      line = omega (arith, c .line);
+      line = omega (arith, c .line, some);
     })
 
 -- the facts of both: wherever its vertices lead, its edges are rising, end in the task, keep d at most p, and are as many as its vertices
@@ -324,15 +290,8 @@ link-ok n s to e d p h w led =
     let more = length-snoc (s .vertices) x in
     let more-edges = length-snoc (s .edges) y in
     let total : i + s .wantV ≡ length vs + (s .wantV - 1) = omega arith in
-    let end : Step = on (linked (s .tasks) (task (s .m) vs (s .edges ++ (y ∷ []))) to (s .wantV - 1)) in
-    let e-in = within 1 largestE e in
-    let d-in = within 1 largestD d in
-    let p-in = within 1 largestP p in
-    gate-step (Ok n) (e-in && d-in && p-in) 3 (gate (leb d p) 4 end) outside
-    (λ t. gate-step (Ok n) (leb d p) 4 end (record { low = omega arith; high = omega arith })
-    (λ u.
-    let both = both-left (e-in && d-in) p-in t in
-    let fits = both-right (e-in && d-in) p-in t in
+    link-each (Ok n) s to e d p (λ o. outside) (λ o q. inr refl) (λ o. inl (omega arith, omega arith))
+    (λ sound.
     record {
       tasks = h .tasks;
       taskCount = h .taskCount;
@@ -340,17 +299,17 @@ link-ok n s to e d p h w led =
       edgeCount = omega (arith, h .vertexCount, led .0);
       mask = h .mask;
       covered = λ z. omega (arith, led .2);
-      vertices = each-snoc (s .vertices) x (h .vertices) (vertex-sound e d (both-left e-in d-in both) (both-right e-in d-in both));
+      vertices = each-snoc (s .vertices) x (h .vertices) (sound .vertex);
       edges = each-snoc (s .edges) y (λ z m. edge-snoc (s .vertices) x (i + s .wantV) (length vs + (s .wantV - 1)) z (h .edges z m) total) (record {
         fromIn = omega arith;
         toIn = omega (arith, total, led .1 i (omega arith));
-        someP = leb→le 1 p (both-left (leb 1 p) (leb p largestP) fits);
-        mostP = leb→le p largestP (both-right (leb 1 p) (leb p largestP) fits);
-        spaced = rw (getD-append-seam (s .vertices) x [] noVertex) (leb→le d p u);
+        someP = sound .someP;
+        mostP = sound .mostP;
+        spaced = rw (getD-append-seam (s .vertices) x [] noVertex) (sound .spaced);
       });
       rising = rising-append EdgeBefore (s .edges) (y ∷ []) (h .rising) (rising-one EdgeBefore y) (λ a b m k.
           subst (λ (z : Edge). EdgeBefore a z) (sym (List·Memᴰ·eq-of-singleton k)) (inl (h .edges a m .fromIn)));
       led = (omega (arith, led .0), rw (← total) (led .1), led .2);
       first = omega arith;
       line = omega (arith, h .line);
-    }))
+    })

@@ -25,6 +25,7 @@ pub mod Choices
 pub mod Refusals
 pub mod Verdicts
 pub mod SameJobs
+pub mod FrameSteps
 pub mod FramesKeep
 pub mod Readable
 pub mod TextSize
@@ -35,8 +36,11 @@ pub mod FormsBack
 pub mod FramesBack
 pub mod TextRead
 pub mod Rings
+pub mod WrongFrame
+pub mod Slips
 pub mod Answers
 pub mod Latest
+pub mod OwnDeadline
 pub mod Counts
 pub mod MissPaths
 pub mod Whole

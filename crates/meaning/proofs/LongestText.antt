@@ -1,29 +1,32 @@
 -- A readable text has at most the bytes of its table's lines, exactly these if it is plain, and so at most as many as the longest; behind that one stands
 -- the last line that a refusal can name.
 use mathlib.Core.Path.{_≡_, refl, sym, ap, subst, _∙_}
-use Prim.Native.Nat.{ℕ, zero, suc, _+_, _-_, _*_, _/_, _%_, _≤_, min}
+use Prim.Native.Nat.{ℕ, zero, suc, _+_, _*_, _/_, _%_, _≤_, min}
 use native.Mathlib.Nat.{add-assoc}
 use native.Mathlib.Omega.{arith}
 use mathlib.Core.Bool.{Bool, true, false, _&&_}
+use mathlib.Core.Logic.{inl, inr}
 use mathlib.Core.Option.{Option, none, some}
 use mathlib.Core.List.{List, [], _∷_, _++_, map, List·Memᴰ·head, List·Memᴰ·tail}
 use lib.ListN.{length, getD, replicate}
-use lib.Dec.{T, ltb, leb, eqb, leb→le, ltb→lt, eqb→eq}
+use lib.Dec.{T, ltb, eqb, eqb→eq}
 use Rattle.meaning.specs.Lists.{pick, sum, gather, below}
-use Rattle.meaning.specs.Bounds.{mostTasks, mostVertices, mostEdges, largestE, largestD, largestP, largestM, lineLength}
-use Rattle.meaning.specs.Table.{Vertex, Edge, Task, Table, vertex, edge, task, noVertex}
+use Rattle.meaning.specs.Bounds.{mostTasks, mostVertices, mostEdges, largestM, lineLength}
+use Rattle.meaning.specs.Table.{Vertex, Task, Table, vertex, edge, task}
 use Rattle.meaning.specs.Text.{line, Line, lineFeed, intoFirst, linesOf, digitOf, byteWith, hexBytes, frameOf, isFrame, word}
-use Rattle.meaning.specs.Text.{Begun, begun, nothing, closed, Step, on, over, wrong, gate, within, taskFrame, maskFits, vertexFrame, afterLast, edgeFrame}
-use Rattle.meaning.specs.Text.{linked, ringTo, gearTo, vendorFrame, linkFrame, wantedVertex, framed}
+use Rattle.meaning.specs.Text.{Begun, nothing, closed, Step, on, over, wrong, within, taskFrame, vertexFrame, edgeFrame}
+use Rattle.meaning.specs.Text.{ringTo, gearTo, vendorFrame, linkFrame, framed}
 use Rattle.meaning.specs.Text.{stepAt, Reading, readable, unreadable, atEnd, readFrom, read}
 use Rattle.meaning.specs.Sound.{SoundTask, AllSound}
 use Rattle.meaning.specs.Texts.{taskLine, vertexLine, edgeLine, longestTask, longestText, taskLength, textLength, LongestText, lastLine}
 use Rattle.meaning.specs.Texts.{TextRefused}
+use Rattle.meaning.specs.Slips.{LineRow}
+use Rattle.meaning.specs.Bench.{bytes}
 use Rattle.meaning.specs.Rings.{Plain}
 use borrow.Author.Tests.{ne-eqb}
-use Rattle.meaning.proofs.Lists.{both-left, both-right, length-snoc, map-append, sum-append}
+use Rattle.meaning.proofs.Lists.{both-right, length-snoc, map-append, sum-append}
 use Rattle.meaning.proofs.Readable.{readStep, step-read, read-sound, read-refused}
-use Rattle.meaning.proofs.FramesKeep.{gate-step, pick-step}
+use Rattle.meaning.proofs.FrameSteps.{task-each, vertex-each, edge-each, vendor-each, link-each, vertex-wanted, edge-wanted, task-wanted}
 use Rattle.meaning.proofs.TextSize.{text-size}
 use Rattle.meaning.proofs.FramesBack.{text-of-read}
 
@@ -131,103 +134,67 @@ closed-bytes b s w h = go (s .vertices) refl
 frame-bytes : (k n : ℕ) (f : List ℕ) → T (isFrame k n f) → length f ≡ n
 frame-bytes k n f t = eqb→eq (length f) n (both-right (eqb (getD f 0 0) k) (eqb (length f) n) t)
 
--- a step that is taken only for a frame of n bytes
-framed-as : (b k n : ℕ) (f : List ℕ) (x : Bool) → (T x → T (isFrame k n f)) → (r s : Step) → Kept (b + lineLength n) r
-    → Kept (b + lineLength (length f)) s → Kept (b + lineLength (length f)) (pick x r s)
-framed-as b k n f x i r s h =
-    pick-step (Kept (b + lineLength (length f))) x r s (λ t. subst (λ (m : ℕ). Kept (b + lineLength m) r) (sym (frame-bytes k n f (i t))) h)
-
 -- by a frame of n bytes
 task-kept : (b n : ℕ) (s : Begun) (v e least m : ℕ) → (least ≤ m → taskLine m ≡ lineLength n) → b ≤ tasksLength (closed s)
     → Kept (b + lineLength n) (taskFrame s v e least m)
 task-kept b n s v e least m l h =
-    let counts = within 1 mostVertices v && leb e mostEdges in
-    gate-step (Kept (b + lineLength n)) (counts && within least largestM m) 3 (on (begun (closed s) (task m [] []) v e)) tt
-    (λ t.
-    let r = both-left (within 1 mostVertices v) (leb e mostEdges) (both-left counts (within least largestM m) t) in
-    let low = leb→le 1 v (both-left (leb 1 v) (leb v mostVertices) r) in
-    let bytes = l (leb→le least m (both-left (leb least m) (leb m largestM) (both-right counts (within least largestM m) t))) in
-    record { bytes = omega (arith, h, low, bytes, line-most m); edges = omega arith; led = tt })
+    task-each (Kept (b + lineLength n)) s v e least m tt
+    (λ some v-in e-in low m-in. record { bytes = omega (arith, h, some, l low, line-most m); edges = omega arith; led = tt })
 
 vertex-kept : (b : ℕ) (s : Begun) (e d : ℕ) → BytesSoFar b s → 1 ≤ s .wantV → Kept (b + vertexLine) (vertexFrame s e d)
 vertex-kept b s e d h w =
-    let x : Vertex = vertex e d in
-    let vs = s .vertices ++ (x ∷ []) in
-    let more = length-snoc (s .vertices) x in
-    let end : Step = on (begun (s .tasks) (task (s .m) vs (s .edges)) (s .wantV - 1) (s .wantE)) in
-    gate-step (Kept (b + vertexLine)) (within 1 largestE e && within 1 largestD d) 3 (gate (maskFits s vs) 3 end) tt
-    (λ t. gate-step (Kept (b + vertexLine)) (maskFits s vs) 3 end tt
-    (λ u. record { bytes = omega (arith, h .bytes); edges = omega (arith, h .edges); led = tt }))
+    let more = length-snoc (s .vertices) (vertex e d) in
+    vertex-each (Kept (b + vertexLine)) s e d (λ i. tt) (λ i. tt) (λ i. tt)
+    (λ x fits. record { bytes = omega (arith, h .bytes); edges = omega (arith, h .edges); led = tt })
 
 edge-kept : (b : ℕ) (s : Begun) (f t p : ℕ) → BytesSoFar b s → s .wantV ≡ 0 → Kept (b + edgeLine) (edgeFrame s f t p)
 edge-kept b s f t p h w =
-    let x : Edge = edge f t p in
-    let more = length-snoc (s .edges) x in
-    let vs = s .vertices in
-    let end : Step = on (begun (s .tasks) (task (s .m) vs (s .edges ++ (x ∷ []))) 0 (s .wantE - 1)) in
-    let from = ltb f (length vs) in
-    let to = ltb t (length vs) in
-    let b4 = leb (getD vs f noVertex .d) p in
-    let b5 = afterLast (s .edges) x in
-    gate-step (Kept (b + edgeLine)) (from && to && within 1 largestP p) 3 (gate b4 4 (gate b5 5 end)) tt
-    (λ u. gate-step (Kept (b + edgeLine)) b4 4 (gate b5 5 end) tt
-    (λ v. gate-step (Kept (b + edgeLine)) b5 5 end tt
-    (λ r.
-    let some = ltb→lt f (length vs) (both-left from to (both-left (from && to) (within 1 largestP p) u)) in
-    record { bytes = omega (arith, h .bytes); edges = omega arith; led = tt })))
+    let more = length-snoc (s .edges) (edge f t p) in
+    edge-each (Kept (b + edgeLine)) s f t p tt tt tt
+    (λ x after. let some = x .fromIn in record { bytes = omega (arith, h .bytes); edges = omega arith; led = tt })
 
 -- of a ring or a gear table
 vendor-kept : (b : ℕ) (s : Begun) (to : ℕ → ℕ → ℕ) (v : ℕ) → b ≤ tasksLength (closed s) → Kept (b + lineLength 2) (vendorFrame s to v)
 vendor-kept b s to v h =
-    gate-step (Kept (b + lineLength 2)) (within 1 mostVertices v) 3 (on (linked (closed s) (task 0 [] []) (to v) v)) tt
-    (λ t. record { bytes = omega (arith, h, leb→le 1 v (both-left (leb 1 v) (leb v mostVertices) t)); edges = omega arith; led = refl })
+    vendor-each (Kept (b + lineLength 2)) s to v tt (λ some v-in. record { bytes = omega (arith, h, some); edges = omega arith; led = refl })
 
 link-kept : (b : ℕ) (s : Begun) (to : ℕ → ℕ) (e d p : ℕ) → BytesSoFar b s → 1 ≤ s .wantV → s .m ≡ 0 → Kept (b + lineLength 7) (linkFrame s to e d p)
 link-kept b s to e d p h w m =
-    let x : Vertex = vertex e d in
-    let y : Edge = edge (length (s .vertices)) (to (length (s .vertices))) p in
-    let more = length-snoc (s .vertices) x in
-    let more-edges = length-snoc (s .edges) y in
-    let end : Step = on (linked (s .tasks) (task (s .m) (s .vertices ++ (x ∷ [])) (s .edges ++ (y ∷ []))) to (s .wantV - 1)) in
-    gate-step (Kept (b + lineLength 7)) (within 1 largestE e && within 1 largestD d && within 1 largestP p) 3 (gate (leb d p) 4 end) tt
-    (λ t. gate-step (Kept (b + lineLength 7)) (leb d p) 4 end tt
-    (λ u. record { bytes = omega (arith, h .bytes, ap taskLine m); edges = omega arith; led = m }))
+    let more = length-snoc (s .vertices) (vertex e d) in
+    let more-edges = length-snoc (s .edges) (edge (length (s .vertices)) (to (length (s .vertices))) p) in
+    link-each (Kept (b + lineLength 7)) s to e d p (λ i. tt) (λ i q. tt) (λ i. tt)
+    (λ x. record { bytes = omega (arith, h .bytes, ap taskLine m); edges = omega arith; led = m })
 
-wanted-kept : (b : ℕ) (s : Begun) (l : Option (ℕ → ℕ)) (f : List ℕ) → BytesSoFar b s → 1 ≤ s .wantV → Led s l
-    → Kept (b + lineLength (length f)) (wantedVertex s l f)
-wanted-kept b s none f h w led =
-    framed-as b 2 5 f (isFrame 2 5 f) (λ t. t) (vertexFrame s (word f 1) (word f 3)) (wrong 2) (vertex-kept b s (word f 1) (word f 3) h w) tt
-wanted-kept b s (some to) f h w led =
-    framed-as b 6 7 f (isFrame 6 7 f) (λ t. t) (linkFrame s to (word f 1) (word f 3) (word f 5)) (wrong 2)
-    (link-kept b s to (word f 1) (word f 3) (word f 5) h w led) tt
+module _ (b : ℕ) (s : Begun) (f : List ℕ) (h : BytesSoFar b s) where
+  abbrev Here : Step → Type 0
+  Here r = Kept (b + lineLength (length f)) r
 
-framed-kept : (b : ℕ) (s : Begun) (v e : ℕ) (f : List ℕ) → BytesSoFar b s → s .wantV ≡ v → Kept (b + lineLength (length f)) (framed s v e f)
-framed-kept b s (suc v) e f h w = wanted-kept b s (s .leads) f h (omega arith) (h .led)
-framed-kept b s zero (suc e) f h w =
-    framed-as b 3 5 f (isFrame 3 5 f) (λ t. t) (edgeFrame s (getD f 1 0) (getD f 2 0) (word f 3)) (wrong 2)
-    (edge-kept b s (getD f 1 0) (getD f 2 0) (word f 3) h w) tt
-framed-kept b s zero zero f h w =
-    let all = closed-bytes b s w h in
-    let few = ltb (length (closed s)) mostTasks in
-    let some = ltb 0 (length (closed s)) in
-    let end = pick (isFrame 0 1 f && some) (over (closed s)) (wrong 2) in
-    let gears = pick (isFrame 7 2 f && few) (vendorFrame s gearTo (getD f 1 0)) end in
-    let rings = pick (isFrame 5 2 f && few) (vendorFrame s ringTo (getD f 1 0)) gears in
-    let masked = taskFrame s (getD f 1 0) (getD f 2 0) 1 (word f 3) in
-    framed-as b 1 3 f (isFrame 1 3 f && few) (both-left (isFrame 1 3 f) few) (taskFrame s (getD f 1 0) (getD f 2 0) 0 0)
-    (pick (isFrame 4 5 f && few) masked rings) (task-kept b 3 s (getD f 1 0) (getD f 2 0) 0 0 (λ m. refl) all)
-    (framed-as b 4 5 f (isFrame 4 5 f && few) (both-left (isFrame 4 5 f) few) masked rings
-    (task-kept b 5 s (getD f 1 0) (getD f 2 0) 1 (word f 3) (line-04 (word f 3)) all)
-    (framed-as b 5 2 f (isFrame 5 2 f && few) (both-left (isFrame 5 2 f) few) (vendorFrame s ringTo (getD f 1 0)) gears
-    (vendor-kept b s ringTo (getD f 1 0) all)
-    (framed-as b 7 2 f (isFrame 7 2 f && few) (both-left (isFrame 7 2 f) few) (vendorFrame s gearTo (getD f 1 0)) end
-    (vendor-kept b s gearTo (getD f 1 0) all)
-    (framed-as b 0 1 f (isFrame 0 1 f && some) (both-left (isFrame 0 1 f) some) (over (closed s)) (wrong 2) (omega (arith, all)) tt))))
+  -- a step that is taken only for a frame of n bytes
+  framed-as : (k n : ℕ) → T (isFrame k n f) → (r : Step) → Kept (b + lineLength n) r → Here r
+  framed-as k n t r = subst (λ (m : ℕ). Kept (b + lineLength m) r) (sym (frame-bytes k n f t))
+
+  framed-kept : (v e : ℕ) → s .wantV ≡ v → Here (framed s v e f)
+  framed-kept (suc v) e w =
+      vertex-wanted Here s (s .leads) f tt
+      (λ l t. framed-as 2 5 t (vertexFrame s (word f 1) (word f 3)) (vertex-kept b s (word f 1) (word f 3) h (omega arith)))
+      (λ to l t. framed-as 6 7 t (linkFrame s to (word f 1) (word f 3) (word f 5))
+      (link-kept b s to (word f 1) (word f 3) (word f 5) h (omega arith) (subst (Led s) l (h .led))))
+  framed-kept zero (suc e) w =
+      edge-wanted Here s e f tt
+      (λ t. framed-as 3 5 t (edgeFrame s (getD f 1 0) (getD f 2 0) (word f 3)) (edge-kept b s (getD f 1 0) (getD f 2 0) (word f 3) h w))
+  framed-kept zero zero w =
+      let all = closed-bytes b s w h in
+      let nv = getD f 1 0 in
+      let ne = getD f 2 0 in
+      task-wanted Here s f tt (λ t i. framed-as 1 3 t (taskFrame s nv ne 0 0) (task-kept b 3 s nv ne 0 0 (λ m. refl) all))
+      (λ t i. framed-as 4 5 t (taskFrame s nv ne 1 (word f 3)) (task-kept b 5 s nv ne 1 (word f 3) (line-04 (word f 3)) all))
+      (λ t i. framed-as 5 2 t (vendorFrame s ringTo nv) (vendor-kept b s ringTo nv all))
+      (λ t i. framed-as 7 2 t (vendorFrame s gearTo nv) (vendor-kept b s gearTo nv all)) (λ t i. framed-as 0 1 t (over (closed s)) (omega (arith, all)))
 
 step-kept : (b m : ℕ) (s : Begun) (o : Option (List ℕ)) → Fits m o → BytesSoFar b s → Kept (b + m) (stepAt s o)
 step-kept b m s none q h = tt
 step-kept b m s (some f) q h =
-    subst (λ (n : ℕ). Kept (b + n) (stepAt s (some f))) (sym q) (framed-kept b s (s .wantV) (s .wantE) f h refl)
+    subst (λ (n : ℕ). Kept (b + n) (stepAt s (some f))) (sym q) (framed-kept b s f h (s .wantV) (s .wantE) refl)
 
 -- ---- all lines
 
@@ -315,5 +282,21 @@ full-refused : read (fullText ++ (lineFeed ∷ [])) ≡ unreadable 7 lastLine
 unfolding read
 full-refused = refl
 
+-- ---- a text for each row
+
+-- in the order of their numbers, 13 behind them
+each-row : (k : ℕ) → LineRow 1 7 k → (text : List ℕ) × (n : ℕ) × (read text ≡ unreadable k n)
+unfolding read
+each-row zero (inl r) = absurd (omega (arith, r .0))
+each-row (suc zero) (inl r) = (bytes "0", 1, refl)
+each-row (suc (suc zero)) (inl r) = (bytes "00\n", 1, refl)
+each-row (suc (suc (suc zero))) (inl r) = (bytes "010000\n", 1, refl)
+each-row (suc (suc (suc (suc zero)))) (inl r) = (bytes "010101\n0200020002\n0300000001\n", 3, refl)
+each-row (suc (suc (suc (suc (suc zero))))) (inl r) = (bytes "010102\n0200010001\n0300000001\n0300000001\n", 4, refl)
+each-row (suc (suc (suc (suc (suc (suc zero)))))) (inl r) = ([], 1, refl)
+each-row (suc (suc (suc (suc (suc (suc (suc zero))))))) (inl r) = (bytes "010100\n0200010001\n00\n\n", 4, refl)
+each-row (suc (suc (suc (suc (suc (suc (suc (suc k)))))))) (inl r) = absurd (omega (arith, r .1))
+each-row k (inr r) = (bytes "010100\n0200020001\n", 2, ap (λ (j : ℕ). unreadable j 2) (sym r))
+
 pub text-refused-at : TextRefused
-text-refused-at = record { number = refl; within = read-refused; reached = (fullText ++ (lineFeed ∷ []), 7, full-refused) }
+text-refused-at = record { number = refl; within = read-refused; each = each-row; reached = (fullText ++ (lineFeed ∷ []), 7, full-refused) }

@@ -1,22 +1,20 @@
 -- What every readable text keeps, and where a refusal of a text can stand.
 use mathlib.Core.Path.{_≡_, refl, sym, ap, subst, _∙_}
-use Prim.Native.Nat.{ℕ, zero, suc, _-_, _≤_, _<_}
+use Prim.Native.Nat.{ℕ, zero, suc, _≤_, _<_}
 use native.Mathlib.Omega.{arith}
-use mathlib.Core.Bool.{Bool, _&&_}
+use mathlib.Core.Logic.{inl, inr}
 use mathlib.Core.Option.{Option, none, some}
 use mathlib.Core.List.{List, [], _∷_, List·Memᴰ·not-nil}
 use lib.ListN.{length, getD}
-use lib.Dec.{T, ltb, ltb→lt}
-use Rattle.meaning.specs.Lists.{pick}
-use Rattle.meaning.specs.Bounds.{mostTasks}
 use Rattle.meaning.specs.Table.{Task, Table}
-use Rattle.meaning.specs.Text.{Line, linesOf, frameOf, isFrame, word, Begun, begun, linked, nothing, closed, Step, on, over, wrong}
-use Rattle.meaning.specs.Text.{taskFrame, vertexFrame, edgeFrame, ringTo, gearTo, vendorFrame, linkFrame, wantedVertex, framed, stepAt}
+use Rattle.meaning.specs.Text.{Line, linesOf, frameOf, word, Begun, begun, linked, nothing, closed, Step, on, over, wrong}
+use Rattle.meaning.specs.Text.{ringTo, gearTo, framed, stepAt}
 use Rattle.meaning.specs.Text.{Reading, readable, unreadable, atEnd, framesFrom, readFrom, read}
 use Rattle.meaning.specs.Sound.{SoundTable}
 use Rattle.meaning.specs.Texts.{lastLine, ReadableSound}
-use Rattle.meaning.proofs.Lists.{both-right}
-use Rattle.meaning.proofs.FramesKeep.{HeldSoFar, Led, not-here, pick-step, Ok, Closed, closed-held, task-ok, vertex-ok, edge-ok}
+use Rattle.meaning.specs.Slips.{LineRow}
+use Rattle.meaning.proofs.FrameSteps.{vertex-wanted, edge-wanted, task-wanted}
+use Rattle.meaning.proofs.FramesKeep.{HeldSoFar, Led, not-here, Ok, Closed, closed-held, task-ok, vertex-ok, edge-ok}
 use Rattle.meaning.proofs.FramesKeep.{ring-leads, gear-leads, vendor-ok, link-ok}
 
 -- ---- a line, and all lines
@@ -24,40 +22,20 @@ use Rattle.meaning.proofs.FramesKeep.{ring-leads, gear-leads, vendor-ok
 over-ok : (n : ℕ) (ts : Table) → Closed n ts → 0 < length ts → Ok n (over ts)
 over-ok n ts c h = (record { someTask = h; taskCount = c .count; eachTask = c .sound }, omega (arith, c .line, c .count))
 
-wanted-ok : (n : ℕ) (s : Begun) (l : Option (ℕ → ℕ)) (f : List ℕ) → HeldSoFar n s → 1 ≤ s .wantV → Led s l → Ok n (wantedVertex s l f)
-wanted-ok n s none f h w led =
-    pick-step (Ok n) (isFrame 2 5 f) (vertexFrame s (word f 1) (word f 3)) (wrong 2) (λ t. vertex-ok n s (word f 1) (word f 3) h w) not-here
-wanted-ok n s (some to) f h w led =
-    pick-step (Ok n) (isFrame 6 7 f) (linkFrame s to (word f 1) (word f 3) (word f 5)) (wrong 2)
-    (λ t. link-ok n s to (word f 1) (word f 3) (word f 5) h w led) not-here
-
 framed-ok : (n : ℕ) (s : Begun) (v e : ℕ) (f : List ℕ) → HeldSoFar n s → s .wantV ≡ v → s .wantE ≡ e → Ok n (framed s v e f)
-framed-ok n s (suc v) e f h p q = wanted-ok n s (s .leads) f h (omega arith) (h .led)
+framed-ok n s (suc v) e f h p q =
+    vertex-wanted (Ok n) s (s .leads) f not-here (λ l t. vertex-ok n s (word f 1) (word f 3) h (omega arith))
+    (λ to l t. link-ok n s to (word f 1) (word f 3) (word f 5) h (omega arith) (subst (Led s) l (h .led)))
 framed-ok n s zero (suc e) f h p q =
-    pick-step (Ok n) (isFrame 3 5 f) (edgeFrame s (getD f 1 0) (getD f 2 0) (word f 3)) (wrong 2)
-    (λ t. edge-ok n s (getD f 1 0) (getD f 2 0) (word f 3) h p (omega arith)) not-here
+    edge-wanted (Ok n) s e f not-here (λ t. edge-ok n s (getD f 1 0) (getD f 2 0) (word f 3) h p (omega arith))
 framed-ok n s zero zero f h p q =
     let c = closed-held n (s .tasks) (s .m) (s .edges) (s .wantV) (s .wantE) (s .leads) (s .vertices) p h in
-    let few = ltb (length (closed s)) mostTasks in
-    let some = ltb 0 (length (closed s)) in
-    let one-more : (b : Bool) → T (b && few) → length (closed s) < mostTasks = λ b t. ltb→lt (length (closed s)) mostTasks (both-right b few t) in
-    let end = pick (isFrame 0 1 f && some) (over (closed s)) (wrong 2) in
-    let gears = pick (isFrame 7 2 f && few) (vendorFrame s gearTo (getD f 1 0)) end in
-    let rings = pick (isFrame 5 2 f && few) (vendorFrame s ringTo (getD f 1 0)) gears in
-    let masked = taskFrame s (getD f 1 0) (getD f 2 0) 1 (word f 3) in
-    pick-step (Ok n) (isFrame 1 3 f && few) (taskFrame s (getD f 1 0) (getD f 2 0) 0 0) (pick (isFrame 4 5 f && few) masked rings)
-    (λ t. task-ok n s (getD f 1 0) (getD f 2 0) 0 0 c (one-more (isFrame 1 3 f) t))
-    (pick-step (Ok n) (isFrame 4 5 f && few) masked rings
-    (λ t. task-ok n s (getD f 1 0) (getD f 2 0) 1 (word f 3) c (one-more (isFrame 4 5 f) t))
-    (pick-step (Ok n) (isFrame 5 2 f && few) (vendorFrame s ringTo (getD f 1 0)) gears
-    (λ t. vendor-ok n s ringTo (getD f 1 0) (ring-leads (getD f 1 0)) c (one-more (isFrame 5 2 f) t))
-    (pick-step (Ok n) (isFrame 7 2 f && few) (vendorFrame s gearTo (getD f 1 0)) end
-    (λ t. vendor-ok n s gearTo (getD f 1 0) (gear-leads (getD f 1 0)) c (one-more (isFrame 7 2 f) t))
-    (pick-step (Ok n) (isFrame 0 1 f && some) (over (closed s)) (wrong 2)
-    (λ t. over-ok n (closed s) c (ltb→lt 0 (length (closed s)) (both-right (isFrame 0 1 f) some t))) not-here))))
+    task-wanted (Ok n) s f not-here (λ t. task-ok n s (getD f 1 0) (getD f 2 0) 0 0 c) (λ t. task-ok n s (getD f 1 0) (getD f 2 0) 1 (word f 3) c)
+    (λ t. vendor-ok n s ringTo (getD f 1 0) (ring-leads (getD f 1 0)) c) (λ t. vendor-ok n s gearTo (getD f 1 0) (gear-leads (getD f 1 0)) c)
+    (λ t. over-ok n (closed s) c)
 
 step-ok : (n : ℕ) (s : Begun) (o : Option (List ℕ)) → HeldSoFar n s → Ok n (stepAt s o)
-step-ok n s none h = record { low = omega arith; high = omega arith }
+step-ok n s none h = inl (omega arith, omega arith)
 step-ok n s (some f) h = framed-ok n s (s .wantV) (s .wantE) f h refl refl
 
 -- the lines behind line n, after its step
@@ -94,7 +72,17 @@ step-read = step-frames frameOf
 
 -- a row of the text and a line that it can name
 abbrev pub InText : ℕ → ℕ → Type 0
-InText k n = (1 ≤ k) × (k ≤ 7) × (1 ≤ n) × (n ≤ lastLine)
+InText k n = LineRow 1 7 k × (1 ≤ n) × (n ≤ lastLine)
+
+-- a row that refuses a line before the end
+frame-row : (k : ℕ) → LineRow 1 5 k → LineRow 1 7 k
+frame-row k (inl r) = inl (r .0, omega (arith, r .1))
+frame-row k (inr r) = inr r
+
+-- no row is below the least of them, nor is 13
+pub row-least : {low high k : ℕ} → low ≤ 13 → LineRow low high k → low ≤ k
+row-least l (inl r) = r .0
+row-least l (inr r) = omega (arith, l, r)
 
 abbrev pub Good : Reading → Type 0
 Good (readable ts) = SoundTable ts
@@ -102,21 +90,21 @@ Good (unreadable k n) = InText k n
 
 at-end : {X : Type 0} (ts : Table) (n : ℕ) (ls : List X) → SoundTable ts → n < lastLine → Good (atEnd ts (suc n) ls)
 at-end ts n [] s h = s
-at-end ts n (l ∷ ls) s h = (omega arith, omega arith, omega arith, omega arith)
+at-end ts n (l ∷ ls) s h = (inl (omega arith, omega arith), omega arith, omega arith)
 
 -- a refusal at line n, before the end frame
-here : (n k : ℕ) (s : Begun) → HeldSoFar n s → 1 ≤ k → k ≤ 7 → InText k n
-here n k s h a b = (a, b, h .first, omega (arith, h .line, h .taskCount, h .vertexCount, h .edgeCount))
+here : (n k : ℕ) (s : Begun) → HeldSoFar n s → LineRow 1 7 k → InText k n
+here n k s h r = (r, h .first, omega (arith, h .line, h .taskCount, h .vertexCount, h .edgeCount))
 
 pub from-good : {X : Type 0} (frame : X → Option (List ℕ)) (s : Begun) (n : ℕ) (ls : List X) → HeldSoFar n s → Good (framesFrom frame s n ls)
-from-good frame s n [] h = here n 6 s h (omega arith) (omega arith)
+from-good frame s n [] h = here n 6 s h (inl (omega arith, omega arith))
 from-good {X} frame s n (l ∷ ls) h =
     subst Good (sym (step-frames frame s n l ls)) (go (λ s′ k. from-good frame s′ (suc n) ls k) (stepAt s (frame l)) (step-ok n s (frame l) h))
   where
     go : ((s′ : Begun) → HeldSoFar (suc n) s′ → Good (framesFrom frame s′ (suc n) ls)) → (r : Step) → Ok n r → Good (framesStep frame r n ls)
     go ih (on s′) k = ih s′ k
     go ih (over ts) k = at-end ts n ls (k .0) (k .1)
-    go ih (wrong m) k = here n m s h (k .low) (omega (arith, k .high))
+    go ih (wrong m) k = here n m s h (frame-row m k)
 
 -- the lines of a text, or the frames of a table
 pub frames-good : {X : Type 0} (frame : X → Option (List ℕ)) (ls : List X) → Good (framesFrom frame nothing 1 ls)

@@ -11,10 +11,10 @@ use lib.Dec.{T, ltb, ltb→lt}
 use borrow.Author.Tests.{lt-ltb, le-ltb, ltb-false}
 use Rattle.meaning.specs.Lists.{firstThat}
 use Rattle.meaning.specs.Table.{Table, noTask, noVertex, taskAt, vertexAt}
-use Rattle.meaning.specs.Verdict.{ownE, deadline}
+use Rattle.meaning.specs.Verdict.{deadline}
 use Rattle.meaning.specs.Areas.{workNeed, witnessNeed}
 use Rattle.meaning.specs.Judge.{Row, crowded, row8, row9, row10, row11, refusal}
-use Rattle.meaning.specs.Sound.{SoundTable}
+use Rattle.meaning.specs.Sound.{SoundVertex, SoundTable}
 use Rattle.meaning.proofs.Lists.{both-left, both-right, mem-getD}
 use Rattle.meaning.proofs.Firsts.{first-hit, first-skip}
 
@@ -91,10 +91,9 @@ larger-none ts i v work work′ wit wit′ h k q =
     let a = none-admits ts i v work wit q in
     admits-none ts i v work′ wit′ (record { task = a .task; vertex = a .vertex; paths = a .paths; cells = le-trans (a .cells) h; room = le-trans (a .room) k })
 
--- a vertex that isn't refused is one of the table's, and has work to do
-pub some-execution : (ts : Table) → SoundTable ts → (i v work wit : ℕ) → refusal ts i v work wit ≡ none → 1 ≤ ownE ts i v
-some-execution ts s i v work wit q =
+-- a vertex that isn't refused is one of the table's, and keeps its rules
+pub admitted-sound : (ts : Table) → SoundTable ts → (i v work wit : ℕ) → refusal ts i v work wit ≡ none → SoundVertex (vertexAt (taskAt ts i) v)
+admitted-sound ts s i v work wit q =
     let a = none-admits ts i v work wit q in
     let k = taskAt ts i in
-    let x = s .eachTask k (mem-getD noTask ts i (a .task)) .eachVertex (vertexAt k v) (mem-getD noVertex (k .vertices) v (a .vertex)) in
-    omega (arith, x .someE)
+    s .eachTask k (mem-getD noTask ts i (a .task)) .eachVertex (vertexAt k v) (mem-getD noVertex (k .vertices) v (a .vertex))

@@ -45,6 +45,7 @@ module _ (ts : List Task) (to : ℕ → ℕ) where
         within-true 1 largestE (x .e) (s .vertex .someE) (s .vertex .mostE),
         within-true 1 largestD (x .d) (s .vertex .someD) (s .vertex .mostD),
         within-true 1 largestP (x .p) (s .someP) (s .mostP),
+        le-leb (x .e) (x .d) (s .vertex .inTime),
         le-leb (x .d) (x .p) (s .spaced),
         o,
       )

@@ -1,5 +1,5 @@
--- The bench examples R1 to R8, tables of which the latest finish is asked, masked lengths, tables that are written, and rings and gear tables, as one table
--- under one claim; `proofs/Bench` proves it.
+-- The bench examples R1 to R8, tables of which the latest finish is asked, masked lengths, tables that are written, rings and gear tables, and jobs longer
+-- than their own deadlines, as one table under one claim; `proofs/Bench` proves it.
 use Prim.Native.Nat.{ℕ, _-_, _*_}
 use Prim.Native.Char.{code}
 use Prim.Native.String.{String, [] as []ˢ, _∷_ as _∷ˢ_}
@@ -155,8 +155,9 @@ examples =
     -- R3: horizon 5 has path (0), horizon 6 has (0,0)
     ∷ (pathList (selfEdge 2 5 5) 5 gives (1 ∷ 0 ∷ []))
     ∷ (pathList (selfEdge 2 5 5) 6 gives (2 ∷ 0 ∷ 0 ∷ []))
-    -- R4: misses, C = 1, no witness cells
-    ∷ (judgedWith deskBudget (lone 3 2 ∷ []) 0 gives (1 ∷ 1 ∷ 0 ∷ []))
+    -- R4: refusal 13, line 2, read or written
+    ∷ (deskOf (bytes "010100\n0200030002\n") gives (bytes "1e0d0002\n"))
+    ∷ (writtenInto 99 (lone 3 2 ∷ []) gives (13 ∷ 2 ∷ []))
     -- R5: meets, C = 1
     ∷ (judgedWith deskBudget (r5 5) 1 gives (0 ∷ 1 ∷ []))
     -- R6: misses, C = 3, path (1)
@@ -172,8 +173,6 @@ examples =
     ∷ (judgedWith 6 r7 1 gives (0 ∷ 5 ∷ []))
     -- how late is the latest. R2: C = 1, tick 5, paths (0,0) and (0)
     ∷ (lateWith deskBudget r2 2 gives (0 ∷ 1 ∷ 5 ∷ 5 ∷ 2 ∷ 0 ∷ 0 ∷ 1 ∷ 0 ∷ []))
-    -- R4 misses as before
-    ∷ (lateWith deskBudget (lone 3 2 ∷ []) 0 gives (1 ∷ 1 ∷ 0 ∷ []))
     -- nothing above: e itself, no cells
     ∷ (lateWith deskBudget (lone 2 5 ∷ []) 0 gives (0 ∷ 1 ∷ 0 ∷ 2 ∷ []))
     -- R5: (0) finishes at 3, (1) at 5; R6 misses as before, with this C
@@ -209,10 +208,12 @@ examples =
     ∷ (lateWith deskBudget (lone 2 9 ∷ masking 3 3 9 ∷ masking 2 2 9 ∷ []) 0 gives (0 ∷ 1 ∷ 0 ∷ 5 ∷ []))
     ∷ (lateWith deskBudget (lone 2 9 ∷ masking 2 2 9 ∷ masking 3 3 9 ∷ []) 0 gives (0 ∷ 1 ∷ 0 ∷ 5 ∷ []))
     ∷ (lateWith deskBudget (lone 2 9 ∷ masking 3 3 9 ∷ masking 2 2 9 ∷ []) 1 gives (0 ∷ 1 ∷ 2 ∷ 7 ∷ 1 ∷ 0 ∷ []))
-    -- 04 with 0, with 1,001, and with 1,000
+    -- 04 with 0, with 1,001, and with 1,000, which no e of a readable table covers; with 200 one does, with 201 none
     ∷ (checkOf "0401000000\n0200010009\n00\n" gives (3 ∷ 1 ∷ []))
     ∷ (checkOf "04010003e9\n0203e80009\n00\n" gives (3 ∷ 1 ∷ []))
-    ∷ (checkOf "04010003e8\n0203e80009\n00\n" gives (0 ∷ 0 ∷ []))
+    ∷ (checkOf "04010003e8\n0200c800c8\n00\n" gives (3 ∷ 2 ∷ []))
+    ∷ (checkOf "04010000c8\n0200c800c8\n00\n" gives (0 ∷ 0 ∷ []))
+    ∷ (checkOf "04010000c9\n0200c800c8\n00\n" gives (3 ∷ 2 ∷ []))
     -- m 5 is the largest e, in the last vertex or the first; one less, and the last vertex's line is refused, before a faulty edge's
     ∷ (checkOf "0402000005\n0200040009\n0200050009\n00\n" gives (0 ∷ 0 ∷ []))
     ∷ (checkOf "0402000005\n0200050009\n0200040009\n00\n" gives (0 ∷ 0 ∷ []))
@@ -228,7 +229,7 @@ examples =
     -- 01 for m = 0, 04 otherwise, with m up to the largest e; numbers with the high byte first
     ∷ (writtenInto 99 (lone 5 9 ∷ []) gives (0 ∷ 21 ∷ bytes "010100\n0200050009\n00\n"))
     ∷ (writtenInto 99 (masking 5 5 9 ∷ []) gives (0 ∷ 25 ∷ bytes "0401000005\n0200050009\n00\n"))
-    ∷ (writtenInto 99 (masking 1000 1000 200 ∷ []) gives (0 ∷ 25 ∷ bytes "04010003e8\n0203e800c8\n00\n"))
+    ∷ (writtenInto 99 (selfEdge 200 200 1000 ∷ []) gives (0 ∷ 32 ∷ bytes "010101\n0200c800c8\n03000003e8\n00\n"))
     -- no task; nine of them, two lines each; nine of which the fifth breaks a rule; each before 10
     ∷ (writtenInto 0 [] gives (2 ∷ 1 ∷ []))
     ∷ (writtenInto 0 (fourTasks ++ fourTasks ++ (lone 0 0 ∷ [])) gives (2 ∷ 17 ∷ []))
@@ -270,7 +271,7 @@ examples =
     ∷ (checkOf "0701\n06000100c900c8\n00\n" gives (3 ∷ 2 ∷ []))
     ∷ (checkOf "0501\n06000100010000\n00\n" gives (3 ∷ 2 ∷ []))
     ∷ (checkOf "0701\n060001000103e9\n00\n" gives (3 ∷ 2 ∷ []))
-    ∷ (checkOf "0501\n0603e800c803e8\n00\n" gives (0 ∷ 0 ∷ []))
+    ∷ (checkOf "0501\n0600c800c803e8\n00\n" gives (0 ∷ 0 ∷ []))
     -- then d above p: its own p, not the next one's
     ∷ (checkOf "0502\n06000100050004\n06000100030009\n00\n" gives (4 ∷ 2 ∷ []))
     ∷ (checkOf "0502\n06000100050005\n06000100030003\n00\n" gives (0 ∷ 0 ∷ []))
@@ -294,6 +295,48 @@ examples =
     -- a text that ends inside, and bytes behind the end
     ∷ (checkOf "0502\n06000100010001\n" gives (6 ∷ 3 ∷ []))
     ∷ (checkOf "0701\n06000100010001\n00\n00\n" gives (7 ∷ 4 ∷ []))
+    -- a job as long as its own deadline, and one longer; e 1,000 is in its bounds, 1,001 isn't, and 3 comes before 13
+    ∷ (checkOf "010100\n0200050005\n00\n" gives (0 ∷ 0 ∷ []))
+    ∷ (checkOf "010100\n0200060005\n00\n" gives (13 ∷ 2 ∷ []))
+    ∷ (checkOf "010100\n0200c900c8\n00\n" gives (13 ∷ 2 ∷ []))
+    ∷ (checkOf "010100\n02010000c8\n00\n" gives (13 ∷ 2 ∷ []))
+    ∷ (checkOf "010100\n0203e800c8\n00\n" gives (13 ∷ 2 ∷ []))
+    ∷ (checkOf "010100\n0203e900c8\n00\n" gives (3 ∷ 2 ∷ []))
+    ∷ (checkOf "010100\n0200010000\n00\n" gives (3 ∷ 2 ∷ []))
+    ∷ (checkOf "010100\n0200ca00c9\n00\n" gives (3 ∷ 2 ∷ []))
+    ∷ (writtenInto 0 (lone 5 5 ∷ []) gives (10 ∷ 21 ∷ []))
+    ∷ (writtenInto 0 (lone 1000 200 ∷ []) gives (13 ∷ 2 ∷ []))
+    ∷ (writtenInto 0 (lone 1001 200 ∷ []) gives (3 ∷ 2 ∷ []))
+    -- so do 1 and 2, in a plain task, in a ring and where no vertex may stand; behind the end it is 7
+    ∷ (checkOf "010100\n0200060005" gives (1 ∷ 2 ∷ []))
+    ∷ (checkOf "010100\n02000600050\n00\n" gives (1 ∷ 2 ∷ []))
+    ∷ (checkOf "010100\n020006000500\n00\n" gives (2 ∷ 2 ∷ []))
+    ∷ (checkOf "010100\n06000600050005\n00\n" gives (2 ∷ 2 ∷ []))
+    ∷ (checkOf "0501\n0200060005\n00\n" gives (2 ∷ 2 ∷ []))
+    ∷ (checkOf "0200060005\n00\n" gives (2 ∷ 1 ∷ []))
+    ∷ (checkOf "010101\n0200010001\n0200060005\n00\n" gives (2 ∷ 3 ∷ []))
+    ∷ (checkOf "010100\n0200010001\n00\n0200060005\n" gives (7 ∷ 4 ∷ []))
+    -- 13 comes before the test of m in the last vertex's line, and before what is wrong in a later line; behind what is wrong in an earlier one, and behind a
+    -- ninth task's 2
+    ∷ (checkOf "0402000007\n0200040005\n0200060005\n00\n" gives (13 ∷ 3 ∷ []))
+    ∷ (checkOf "010201\n0200060005\n0200000005\n0300000004\n00\n" gives (13 ∷ 2 ∷ []))
+    ∷ (writtenInto 0 (task 7 (vertex 4 5 ∷ vertex 6 5 ∷ []) [] ∷ []) gives (13 ∷ 3 ∷ []))
+    ∷ (writtenInto 0 (task 0 (vertex 6 5 ∷ vertex 0 5 ∷ []) (edge 0 0 4 ∷ []) ∷ []) gives (13 ∷ 2 ∷ []))
+    ∷ (checkOf "0401000002\n0200010001\n010100\n0200060005\n00\n" gives (3 ∷ 2 ∷ []))
+    ∷ (writtenInto 0 (fourTasks ++ (lone 2 1 ∷ []) ++ fourTasks) gives (13 ∷ 10 ∷ []))
+    ∷ (writtenInto 0 (fourTasks ++ fourTasks ++ (lone 2 1 ∷ [])) gives (2 ∷ 17 ∷ []))
+    -- in a 06 line 3, also of p, then 13, then 4
+    ∷ (checkOf "0501\n06000500050005\n00\n" gives (0 ∷ 0 ∷ []))
+    ∷ (checkOf "0501\n06000600050009\n00\n" gives (13 ∷ 2 ∷ []))
+    ∷ (checkOf "0701\n06000600050000\n00\n" gives (3 ∷ 2 ∷ []))
+    ∷ (checkOf "0501\n060006000503e9\n00\n" gives (3 ∷ 2 ∷ []))
+    ∷ (checkOf "0702\n06000500050005\n06000600050004\n00\n" gives (13 ∷ 3 ∷ []))
+    ∷ (checkOf "0502\n06000600050005\n06000200020001\n00\n" gives (13 ∷ 2 ∷ []))
+    ∷ (checkOf "0502\n06000200020001\n06000600050005\n00\n" gives (4 ∷ 2 ∷ []))
+    -- "Masked time isn't counted here": 2 + 1 ticks exceed the deadline of 2, and the job misses with nothing above it. Its own task's masked time doesn't count
+    ∷ (deskOf (bytes "010100\n0200020002\n0401000001\n0200010009\n") gives (bytes "1000000100000001\n1001000000000001\n1f01010000\n"))
+    ∷ (lateWith deskBudget (lone 2 2 ∷ masking 1 1 9 ∷ []) 0 gives (1 ∷ 1 ∷ 0 ∷ []))
+    ∷ (deskOf (bytes "0401000002\n0200020002\n") gives (bytes "1000000000000001\n1f01000000\n"))
     ∷ []
 
 -- the claim

@@ -13,7 +13,8 @@ mostVertices = 12
 abbrev pub mostEdges : ℕ
 mostEdges = 32
 
--- the largest e, d, p and m; the least of each is 1, and a task without a masked length has m = 0
+-- the largest e, d, p and m; the least of each is 1, and a task without a masked length has m = 0. Since e is at most d and m at most some e, no e and no m of
+-- a readable table is above the largest d
 abbrev pub largestE : ℕ
 largestE = 1000
 

@@ -13,6 +13,7 @@ pub mod Desk
 pub mod Writing
 pub mod Rings
 pub mod Sound
+pub mod Slips
 pub mod Texts
 pub mod Demands
 pub mod Bench

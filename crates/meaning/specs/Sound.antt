@@ -1,5 +1,5 @@
--- The rules that a table keeps: the bounds, m at most the task's largest e, d at most p, edges strictly rising with their ends in the task. Every readable
--- table keeps them (`ReadableSound` of `Texts`).
+-- The rules that a table keeps: the bounds, e at most d, m at most the task's largest e, d at most p, edges strictly rising with their ends in the task. Every
+-- readable table keeps them (`ReadableSound` of `Texts`).
 use mathlib.Core.Path.{_≡_}
 use mathlib.Core.Logic.{_⊎_}
 use Prim.Native.Nat.{_≤_, _<_}
@@ -14,6 +14,7 @@ pub record SoundVertex (x : Vertex) : Type 0 where
   pub mostE : x .e ≤ largestE
   pub someD : 1 ≤ x .d
   pub mostD : x .d ≤ largestD
+  pub inTime : x .e ≤ x .d
 
 -- an edge between two of the task's vertices
 pub record SoundEdge (vs : List Vertex) (x : Edge) : Type 0 where

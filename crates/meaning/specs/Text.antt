@@ -1,4 +1,4 @@
--- Frames on paper, and the refusal sheet's rows 1 to 7: from the bytes of a text to its table, or to the number and the line of its refusal.
+-- Frames on paper, and the refusal sheet's rows 1 to 7 and 13: from the bytes of a text to its table, or to the number and the line of its refusal.
 use Prim.Native.Nat.{ℕ, zero, suc, _+_, _-_, _*_, _/_, _%_}
 use mathlib.Core.Bool.{Bool, true, false, _&&_, _||_}
 use mathlib.Core.Option.{Option, none, some}
@@ -122,12 +122,14 @@ taskFrame s nv ne least m =
 abbrev pub maskFits : Begun → List Vertex → Bool
 maskFits s vs = ltb 1 (s .wantV) || leb (s .m) (largestEIn vs)
 
+-- "A job longer than its own deadline is a typing slip. Refuse it [..]: number 13, at the vertex's line, when e exceeds d, after 3, before 4 and before wish
+-- 3's test of m."
 abbrev pub vertexFrame : Begun → ℕ → ℕ → Step
 vertexFrame s e d =
     let vs = s .vertices ++ (vertex e d ∷ []) in
     gate (within 1 largestE e && within 1 largestD d) 3
-    (gate (maskFits s vs) 3
-    (on (begun (s .tasks) (task (s .m) vs (s .edges)) (s .wantV - 1) (s .wantE))))
+    (gate (leb e d) 13 (gate (maskFits s vs) 3
+    (on (begun (s .tasks) (task (s .m) vs (s .edges)) (s .wantV - 1) (s .wantE)))))
 
 -- strictly rising order of (from, to): an edge stands after the one before it in its task
 abbrev pub afterLast : List Edge → Edge → Bool
@@ -157,14 +159,15 @@ gearTo n i = i
 abbrev pub vendorFrame : Begun → (ℕ → ℕ → ℕ) → ℕ → Step
 vendorFrame s to n = gate (within 1 mostVertices n) 3 (on (linked (closed s) (task 0 [] []) (to n) n))
 
--- "and that many frames 06 e d p", of 2 bytes each: the next vertex, and the only edge out of it, with its own p. The edges come in order of their start,
--- so that 5 can't occur.
+-- "and that many frames 06 e d p", of 2 bytes each: the next vertex, and the only edge out of it, with its own p. So 3 for all three, wish 6's 13, then 4;
+-- the edges come in order of their start, so that 5 can't occur.
 abbrev pub linkFrame : Begun → (ℕ → ℕ) → ℕ → ℕ → ℕ → Step
 linkFrame s to e d p =
     let i = length (s .vertices) in
     gate (within 1 largestE e && within 1 largestD d && within 1 largestP p) 3
+    (gate (leb e d) 13
     (gate (leb d p) 4
-    (on (linked (s .tasks) (task (s .m) (s .vertices ++ (vertex e d ∷ [])) (s .edges ++ (edge i (to i) p ∷ []))) to (s .wantV - 1))))
+    (on (linked (s .tasks) (task (s .m) (s .vertices ++ (vertex e d ∷ [])) (s .edges ++ (edge i (to i) p ∷ []))) to (s .wantV - 1)))))
 
 -- ---- which frame may stand there
 

@@ -12,6 +12,7 @@ use Rattle.meaning.specs.Text.{linesOf, readable, unreadable, read}
 use Rattle.meaning.specs.Sound.{SoundTable}
 use Rattle.meaning.specs.Writing.{textOf}
 use Rattle.meaning.specs.Rings.{Plain}
+use Rattle.meaning.specs.Slips.{LineRow}
 
 -- ---- readable texts
 
@@ -71,15 +72,16 @@ mostLines = 1 + mostVertices + mostEdges
 abbrev pub lastLine : ℕ
 lastLine = mostTasks * mostLines + 2
 
--- A refusal of the text has a number from 1 to 7, and a line from 1 to that one; some text is refused there.
+-- A refusal of the text has a number from 1 to 7 or 13, and some text gets each of these; it has a line from 1 to that one, and some text is refused there.
 pub record TextRefused : Type 0 where
   pub number : lastLine ≡ 362
-  pub within : (text : List ℕ) (k n : ℕ) → read text ≡ unreadable k n → (1 ≤ k) × (k ≤ 7) × (1 ≤ n) × (n ≤ lastLine)
+  pub within : (text : List ℕ) (k n : ℕ) → read text ≡ unreadable k n → LineRow 1 7 k × (1 ≤ n) × (n ≤ lastLine)
+  pub each : (k : ℕ) → LineRow 1 7 k → (text : List ℕ) × (n : ℕ) × (read text ≡ unreadable k n)
   pub reached : (text : List ℕ) × (k : ℕ) × (read text ≡ unreadable k lastLine)
 
 -- "Lines are read from the first, and the first faulty line decides": the lines behind the one that a refusal names play no part. Cut after any line
 -- before it, the text lacks only its end, so no line before it is faulty; not so for 7, where the end frame was read.
 pub record FirstFaulty : Type 0 where
   pub behind : (text other : List ℕ) (k n : ℕ) → read text ≡ unreadable k n → take n (linesOf other) ≡ take n (linesOf text) → read other ≡ unreadable k n
-  pub before : (text other : List ℕ) (k n j : ℕ) → read text ≡ unreadable k n → k ≤ 6 → j < n → linesOf other ≡ take j (linesOf text)
+  pub before : (text other : List ℕ) (k n j : ℕ) → read text ≡ unreadable k n → (k ≡ 7 → ⊥) → j < n → linesOf other ≡ take j (linesOf text)
       → read other ≡ unreadable 6 (suc j)

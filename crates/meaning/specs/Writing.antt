@@ -46,7 +46,8 @@ pub data Writing : Type 0 where
   writable : List ℕ → Writing
   unwritable : ℕ → ℕ → Writing
 
--- "A table that breaks a rule gets 2 to 5 with the line its frame would have, first line first": its frames, tested in turn by the reader's own rules
+-- "A table that breaks a rule gets 2 to 5 with the line its frame would have, first line first", and 13 "read or written": its frames, tested in turn by the
+-- reader's own rules
 unfoldable pub ruled : Table → Reading
 ruled ts = framesFrom some nothing 1 (framesOf ts)
 

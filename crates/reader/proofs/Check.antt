@@ -4,6 +4,7 @@ use Prim.Native.Nat.{ℕ, _+_, _*_}
 use native.Mathlib.Omega.{arith}
 use mathlib.Core.List.{List}
 use Rattle.meaning.specs.Text.{Reading, readable, unreadable, read, packed}
+use Rattle.meaning.proofs.Readable.{row-least}
 use Rattle.meaning.proofs.Demands.{text-refused}
 use Rattle.kinds.specs.declared.RefusedAt.{RefusedAt}
 use Rattle.kinds.specs.Numbers.{refusalNumber}
@@ -23,4 +24,4 @@ check-unpacked text r p = subst (NumberAndLine (read text)) (sym p) (go (read te
   where
     go : (m : Reading) → read text ≡ m → NumberAndLine m (packed m)
     go (readable ts) e = (refl, refl)
-    go (unreadable k n) e = let b = text-refused text k n e in (b .0, omega (arith, b .3), omega (arith, b .3))
+    go (unreadable k n) e = let b = text-refused text k n e in (row-least (omega arith) (b .0), omega (arith, b .2), omega (arith, b .2))

@@ -2,18 +2,20 @@
 use mathlib.Core.Path.{_≡_, refl, sym, ap, ap₂, subst, _∙_}
 use Prim.Native.Nat.{ℕ}
 use native.Mathlib.Omega.{arith}
+use mathlib.Core.Logic.{inl, inr}
 use mathlib.Core.List.{List, [], _∷_}
 use lib.ListN.{getD}
 use Rattle.meaning.specs.Table as Meant
 use Rattle.meaning.specs.Text as Text
 use Rattle.meaning.specs.Text.{readable, unreadable, read, checked}
 use Rattle.meaning.specs.Sound.{SoundTable}
-use Rattle.meaning.proofs.Readable.{InText}
+use Rattle.meaning.specs.Slips.{LineRow}
+use Rattle.meaning.proofs.Readable.{InText, row-least}
 use Rattle.meaning.proofs.Demands.{readable-sound, text-refused}
 use Rattle.kinds.specs.declared.Refusal.{Refusal}
 use Rattle.kinds.specs.declared.RefusedAt.{RefusedAt}
 use Rattle.kinds.specs.Numbers.{refusalNumber}
-use Rattle.kinds.proofs.Numbers.{number-of-refusal, number-some, same-refusal}
+use Rattle.kinds.proofs.Numbers.{refusalOf, number-of-refusal, number-some, same-refusal}
 use Rattle.table.specs.declared.Table.{Table}
 use Rattle.table.specs.Record.{tableRecord}
 use Rattle.table.specs.Inner.{tableOf}
@@ -26,13 +28,18 @@ use Rattle.reader.specs.Settled.{ReadSettled}
 use Rattle.reader.proofs.Descent.{readingRecord}
 use Rattle.reader.proofs.Whole.{no-tasks}
 
+-- each row of a text has its refusal
+row-number : (k : ℕ) → LineRow 1 7 k → refusalNumber (refusalOf k) ≡ k
+row-number k (inl r) = number-of-refusal k (r .0) (r .1)
+row-number k (inr r) = subst (λ (j : ℕ). refusalNumber (refusalOf j) ≡ j) (sym r) refl
+
 -- the record of what a text means is what a reading promises
 pub reading-reads : (text : List ℕ) (r : Reading) → r ≡ readingRecord (read text) → Reads text r
 reading-reads text r e = record { status = rw e (status-is (read text) refl); table = rw e (table-is (read text)) }
   where
     status-is : (m : Text.Reading) → read text ≡ m → statusNumbers (readingRecord m .status) ≡ checked m
     status-is (readable ts) q = refl
-    status-is (unreadable k n) q = let b = text-refused text k n q in ap (λ (i : ℕ). i ∷ n ∷ []) (number-of-refusal k (b .0) (b .1))
+    status-is (unreadable k n) q = ap (λ (i : ℕ). i ∷ n ∷ []) (row-number k (text-refused text k n q .0))
 
     table-is : (m : Text.Reading) → readingRecord m .table ≡ tableRecord (Text.tasksOf m)
     table-is (readable ts) = refl
@@ -69,7 +76,7 @@ module _ (text : List ℕ) where
       where
         go : (m : Text.Reading) → read text ≡ m → TableRead text (r .table)
         go (readable ts) q = rw (e .table ∙ ap (λ (m : Text.Reading). tableRecord (Text.tasksOf m)) q) (of-table ts q)
-        go (unreadable k n) q = absurd (omega (arith, number-is (status-says p q), text-refused text k n q .0))
+        go (unreadable k n) q = absurd (omega (arith, number-is (status-says p q), row-least (omega arith) (text-refused text k n q .0)))
 
     pub line-refused : {at : RefusedAt} → r .status ≡ Refused at → LineRefused text at
     line-refused {at} p = go (read text) refl

@@ -1,5 +1,5 @@
 // "Lines are read from the first, and the first faulty line decides; within a line the order is 1 to 5. A last stretch without a line feed is
-// a line. After the end frame's line nothing is read: any byte there is 7, whatever it is."
+// a line. After the end frame's line nothing is read: any byte there is 7, whatever it is." By wish 6, 13 comes between 3 and 4.
 //
 // The reader goes down by task: a line is tested for just the frame that must stand there, and looked through for its refusal only where
 // that fails. Each line that is taken has as many bytes as its frame, so that places in the text and line numbers are sums.

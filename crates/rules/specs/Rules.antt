@@ -27,6 +27,10 @@ linkIn e d p = within 1 largestE e && within 1 largestD d && within 1 largestP p
 
 -- ---- orders
 
+-- a job's e is at most its own d
+abbrev pub jobInTime : ℕ → ℕ → Bool
+jobInTime e d = leb e d
+
 -- m is at most its task's largest e
 abbrev pub maskCovered : ℕ → ℕ → Bool
 maskCovered m largest = leb m largest

@@ -1,9 +1,11 @@
 // "Bounds: vertices 1 to 12, edges 0 to 32, e 1 to 1,000, d 1 to 200, p 1 to 1,000, and for each edge d of its starting vertex is at most p"; "its
-// edges in strictly rising order of (from, to)"; "m (2 bytes, 1 to 1,000)", which "may not exceed its task's largest e".
+// edges in strictly rising order of (from, to)"; "m (2 bytes, 1 to 1,000)", which "may not exceed its task's largest e"; "a job longer than its own
+// deadline is a typing slip".
 //
 // On numbers alone, so that whoever takes a frame, from a text or from a table, asks the same questions.
 ghost use mathlib.Core.Path.{_≡_};
-ghost use Rattle.rules.specs.Rules.{taskIn, vertexIn, separationIn, edgeIn, linkIn, maskCovered, edgeSpaced, edgePlace, leastAfter, edgeAfter};
+ghost use Rattle.rules.specs.Rules.{taskIn, vertexIn, separationIn, edgeIn, linkIn};
+ghost use Rattle.rules.specs.Rules.{jobInTime, maskCovered, edgeSpaced, edgePlace, leastAfter, edgeAfter};
 
 // The bounds, in the width of the numbers that are tested.
 const MOST_VERTICES: u32 = bounds::MOST_VERTICES as u32;
@@ -82,6 +84,13 @@ pub fn link_in(e: u32, d: u32, p: u32) -> bool
         return false;
     }
     separation_in(p)
+}
+
+// Refused "when e exceeds d"; masked time "isn't counted here".
+pub fn job_in_time(e: u32, d: u32) -> bool
+    ensures { λ r. ⌜ r ≡ jobInTime e d ⌝ }
+{
+    e <= d
 }
 
 pub fn mask_covered(m: u32, largest: u32) -> bool

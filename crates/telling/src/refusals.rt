@@ -35,7 +35,7 @@ fn say_short(area: &[u8], need: u32, cells: u32) {
     say_with(b" cells are needed and there are #0", [cells, 0, 0, 0]);
 }
 
-// The rows that refuse a line, 1 to 7, and then those that refuse a vertex or an input.
+// The rows that refuse a line, 1 to 7 and 13, and then those that refuse a vertex or an input.
 fn say_row(at: RefusedAt) {
     let refusal = at.refusal;
     match refusal {
@@ -61,6 +61,9 @@ fn say_row(at: RefusedAt) {
         ),
         Refusal::NoEnd => say_at_line(at.place, b"the text ends and no end frame was read"),
         Refusal::BytesAfterEnd => say_at_line(at.place, b"there are bytes after the end frame"),
+        Refusal::JobOverDeadline => {
+            say_at_line(at.place, b"the job is longer than its own deadline");
+        }
         Refusal::NoSuchVertex => say_place(b"there is no such task or vertex", 0, 0),
         Refusal::TooManyPaths => say_place(
             b"task #0 has more than #1 complete paths",

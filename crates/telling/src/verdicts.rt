@@ -90,23 +90,14 @@ fn say_due(job: Vertex, masked: Masked, loads: u32) {
     );
 }
 
-// Masked time is another task's help.
-fn say_alone(masked: Masked) {
-    if masked.ticks == 0 {
-        say(b" with no other task's help:\n");
-        return;
-    }
-    say(b", with nothing above it:\n");
-}
-
-// Task 0 has no higher tasks, and a miss of its vertices no cells.
+// Task 0 has no higher tasks, and a miss of its vertices no cells; only with masked time can there be one (`OwnDeadline` of the judge's demands).
 fn say_misses(table: Table, job: Vertex, masked: Masked, groups: u32, cells: &[u16]) {
     say_with(
         b"MISSES its deadline of #0 tick%0 (#1 group%1 examined)",
         [job.d.0 as u32, groups, 0, 0],
     );
     if cells.len() == 0 {
-        say_alone(masked);
+        say(b", with nothing above it:\n");
         say_due(job, masked, 0);
         return;
     }

@@ -1,7 +1,8 @@
 -- The demands of the writer, from what its promise says of each outcome; and that the promise leaves one result.
 use mathlib.Core.Path.{_≡_, refl, sym, ap, ap₂, subst, _∙_}
-use Prim.Native.Nat.{ℕ, suc, _+_, _≤_, _<_}
+use Prim.Native.Nat.{ℕ, suc, _+_, _-_, _≤_, _<_}
 use native.Mathlib.Omega.{arith}
+use mathlib.Core.Option.{some}
 use mathlib.Core.List.{List, [], _∷_, map}
 use lib.ListN.{length, take, drop, length-append, length-drop}
 use lib.Seq.{take-at, drop-append-seam}
@@ -10,11 +11,13 @@ use Rattle.meaning.specs.Bounds.{mostTasks}
 use Rattle.meaning.specs.Table as Meant
 use Rattle.meaning.specs.Text as Text
 use Rattle.meaning.specs.Text.{readable, unreadable, read, checked}
+use Rattle.meaning.specs.Slips.{LineRow, Slip, frameIn}
 use Rattle.meaning.specs.Sound.{SoundTable}
 use Rattle.meaning.specs.Writing.{framesOfTask, framesOf, textOf, Writing, unwritable, ruled, writing, writingNumbers, areaAfter}
 use Rattle.meaning.specs.Rings.{Plain, taskOf, textOfForms}
 use Rattle.meaning.specs.Areas.{written}
-use Rattle.meaning.proofs.Readable.{read-sound}
+use Rattle.meaning.proofs.Readable.{row-least, read-sound}
+use Rattle.meaning.proofs.Slips.{slip-refused, only-slips-ruled}
 use Rattle.meaning.proofs.FramesBack.{forms-back, text-of-read}
 use Rattle.meaning.proofs.TextRead.{text-plain, refused-read}
 use Rattle.meaning.proofs.Rings.{expansion}
@@ -31,7 +34,7 @@ use Rattle.reader.specs.declared.Status.{Status}
 use Rattle.reader.specs.declared.Status.the-variants as Status
 use Rattle.reader.specs.Record.{statusNumbers, Reads}
 use Rattle.reader.proofs.Result.{table-read}
-use Rattle.checks.proofs.Sound.{ruled-refused, ninth-ruled, counts-ruled, mask-ruled, none-ruled}
+use Rattle.checks.proofs.Sound.{ruled-refused, ninth-ruled, counts-ruled, slip-ruled, mask-ruled, none-ruled}
 use Rattle.writer.specs.declared.Written.{Written}
 use Rattle.writer.specs.declared.Written.the-variants.{Bytes, Refused}
 use Rattle.writer.specs.Written.{writtenNumbers, Writes}
@@ -91,7 +94,7 @@ module _ {t : Table} {before : List ℕ} {r : Written} {after : List ℕ} (w : W
             area = w .area ∙ ap (λ (x : Writing). areaAfter x before) q;
           }
       go (short s l q) = absurd (omega (arith, said q))
-      go (broken k m u q) = let i = ruled-refused ts k m u in absurd (omega (arith, said q, i .0 .0))
+      go (broken k m u q) = let i = ruled-refused ts k m u in absurd (omega (arith, said q, row-least (omega arith) (i .0)))
 
   front-is : (n : ℕ) → WrittenAs n → take n after ≡ textOf ts
   front-is n a =
@@ -135,13 +138,13 @@ module _ {t : Table} {before : List ℕ} {r : Written} {after : List ℕ} (w : W
       go (short i l q) = gets q
       go (broken k n u q) = sound-apart ts s u
 
-  broken-gets : (SoundTable ts → ⊥) → (k : ℕ) × (n : ℕ) × (writtenNumbers r ≡ k ∷ n ∷ []) × (2 ≤ k) × (k ≤ 5) × (1 ≤ n) × (n ≤ length (framesOf ts))
+  broken-gets : (SoundTable ts → ⊥) → (k : ℕ) × (n : ℕ) × (writtenNumbers r ≡ k ∷ n ∷ []) × LineRow 2 5 k × (1 ≤ n) × (n ≤ length (framesOf ts))
   broken-gets h = go (outcome ts room)
     where
-      go : Outcome ts room → (k : ℕ) × (n : ℕ) × (writtenNumbers r ≡ k ∷ n ∷ []) × (2 ≤ k) × (k ≤ 5) × (1 ≤ n) × (n ≤ length (framesOf ts))
+      go : Outcome ts room → (k : ℕ) × (n : ℕ) × (writtenNumbers r ≡ k ∷ n ∷ []) × LineRow 2 5 k × (1 ≤ n) × (n ≤ length (framesOf ts))
       go (fits i l q) = absurd (h i)
       go (short i l q) = absurd (h i)
-      go (broken k n u q) = let i = ruled-refused ts k n u in (k, n, gets q, i .0 .0, i .0 .1, i .1, i .2)
+      go (broken k n u q) = let i = ruled-refused ts k n u in (k, n, gets q, i .0, i .1, i .2)
 
   none-held : t .n ≡ 0 → ts ≡ []
   unfolding tableHeld
@@ -160,12 +163,23 @@ module _ {t : Table} {before : List ℕ} {r : Written} {after : List ℕ} (w : W
         no-task = λ e. ruled-gets 2 1 (ap ruled (none-held e) ∙ none-ruled);
         ninth = λ h s. line-gets 2 mostTasks (ninth-ruled ts (omega (arith, h, tasks-length t)) s);
         counts = λ i h o. line-gets 3 i (counts-ruled ts i (omega (arith, h .0, tasks-length t)) (h .1) (h .2) o);
+        slip = λ i j h a b c d each long.
+            ruled-gets 13 _ (slip-ruled ts i (omega (arith, h .0, tasks-length t)) (h .1) (h .2) j a b c d each long ∙ ap (unreadable 13) (omega arith));
+        slip-only = λ n e. only-slips n e (outcome ts room);
         mask = λ i h a b c d e m.
             ruled-gets 3 _ (mask-ruled ts i (omega (arith, h .0, tasks-length t)) (h .1) (h .2) a b c d e m ∙ ap (unreadable 3) (omega arith));
         unchanged = refused-as;
         rest = λ n e. rest n (written-as n e);
       }
     where
+      -- 10 isn't 13, nor is a text that is written
+      only-slips : (n : ℕ) → writtenNumbers r ≡ 13 ∷ n ∷ [] → Outcome ts room → (f : List ℕ) × (frameIn some (framesOf ts) (n - 1) ≡ some f) × Slip f
+      only-slips n e (fits s l q) = absurd (omega (arith, number-of (sym (w .answer ∙ ap writingNumbers q) ∙ e)))
+      only-slips n e (short s l q) = absurd (omega (arith, number-of (sym (gets q) ∙ e)))
+      only-slips n e (broken k m u q) =
+          let z : k ∷ m ∷ [] ≡ 13 ∷ n ∷ [] = sym (gets q) ∙ e in
+          only-slips-ruled ts n (u ∙ ap₂ unreadable (number-of z) (value-of z))
+
       line-gets : (k i : ℕ) → ruled ts ≡ unreadable k (1 + length (gather framesOfTask (take i ts)))
           → writtenNumbers r ≡ k ∷ suc (length (gather framesOfTask (take i ts))) ∷ []
       line-gets k i e = ruled-gets k (suc (length (gather framesOfTask (take i ts)))) (e ∙ ap (unreadable k) (omega arith))
@@ -252,5 +266,6 @@ demands =
       as-plain-tasks = as-plain-tasks;
       only-forms = only-forms;
       read-again = read-again;
+      slips = slip-refused;
       calls = λ t before r after w. call w;
     }

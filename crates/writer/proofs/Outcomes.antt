@@ -12,6 +12,7 @@ use Rattle.meaning.specs.Text.{Reading, readable, unreadable, read}
 use Rattle.meaning.specs.Texts.{longestText}
 use Rattle.meaning.specs.Sound.{SoundTable}
 use Rattle.meaning.specs.Writing.{textOf, Writing, writable, unwritable, ruled, writingBy, writing}
+use Rattle.meaning.proofs.Readable.{row-least}
 use Rattle.meaning.proofs.LongestText.{none-longer}
 use Rattle.meaning.proofs.TextRead.{sound-read}
 use Rattle.checks.proofs.Sound.{sound-ruled, ruled-sound, ruled-refused}
@@ -57,4 +58,4 @@ writing-bounded ts room = go (outcome ts room)
     go : Outcome ts room → Bounded (writing ts room)
     go (fits s l q) = subst Bounded (sym q) (text-few ts s)
     go (short s l q) = subst Bounded (sym q) (omega arith, text-few ts s)
-    go (broken k n u q) = let i = ruled-refused ts k n u in subst Bounded (sym q) (omega (arith, i .0 .0), omega (arith, i .3))
+    go (broken k n u q) = let i = ruled-refused ts k n u in subst Bounded (sym q) (omega (arith, row-least (omega arith) (i .0)), omega (arith, i .3))

@@ -1,14 +1,16 @@
--- What the customer asks of the writer, wish 4's sentences, and of rings and gear tables, wish 5's: for every call of `write` and `read` that their promises
--- allow. `proofs/Demands` proves it.
+-- What the customer asks of the writer, wish 4's sentences, of rings and gear tables, wish 5's, and of a job longer than its own deadline, wish 6's: for every
+-- call of `write` and `read` that their promises allow, and for every text's reading, which these promise. `proofs/Demands` proves it.
 use mathlib.Core.Path.{_≡_}
-use Prim.Native.Nat.{ℕ, suc, _+_, _≤_, _<_}
+use Prim.Native.Nat.{ℕ, suc, _+_, _-_, _≤_, _<_}
 use mathlib.Core.Logic.{_⊎_}
+use mathlib.Core.Option.{some}
 use mathlib.Core.List.{List, [], _∷_, map, List·Memᴰ}
 use lib.ListN.{length, take, drop}
 use Rattle.meaning.specs.Lists.{gather}
 use Rattle.meaning.specs.Bounds.{mostTasks, mostVertices, mostEdges, largestM}
 use Rattle.meaning.specs.Table as Meant
 use Rattle.meaning.specs.Text.{unreadable, read}
+use Rattle.meaning.specs.Slips.{LineRow, TooLong, Slip, frameIn, SlipRefused}
 use Rattle.meaning.specs.Sound.{SoundVertex, AllSound, SoundTable}
 use Rattle.meaning.specs.Writing.{framesOfTask, framesOf, textOf}
 use Rattle.meaning.specs.Rings.{Plain, Expansion, Form, taskOf, textOfForms}
@@ -91,8 +93,8 @@ module _ (t : Table) (before : List ℕ) (r : Written) (after : List ℕ) where
     pub front : (n : ℕ) → r ≡ Bytes n → take n after ≡ textOf ts
     -- "the writer never writes those", 05 to 07
     pub never-linked : (n : ℕ) → r ≡ Bytes n → Plain (take n after)
-    -- "A table that breaks a rule gets 2 to 5 with the line its frame would have"
-    pub broken : (SoundTable ts → ⊥) → (k : ℕ) × (n : ℕ) × Gets k n × (2 ≤ k) × (k ≤ 5) × (1 ≤ n) × (n ≤ length (framesOf ts))
+    -- "A table that breaks a rule gets 2 to 5 with the line its frame would have", or wish 6's 13
+    pub broken : (SoundTable ts → ⊥) → (k : ℕ) × (n : ℕ) × Gets k n × LineRow 2 5 k × (1 ≤ n) × (n ≤ length (framesOf ts))
     -- "first line first": what the reader says of these frames' lines; but for 1, which it says of a number that has no digits in them
     pub same-line : (k n : ℕ) → 2 ≤ k → read (textOf ts) ≡ unreadable k n → Gets k n
     -- "no task: 2, line 1; more than eight: 2, the ninth's line", if no task before it breaks a rule
@@ -101,6 +103,13 @@ module _ (t : Table) (before : List ℕ) (r : Written) (after : List ℕ) where
     -- counts that no task may have and m above 1,000 are 3 at the task's line, also where a byte can't hold them
     pub counts : (i : ℕ) → Reached i → let k = Meant.taskAt ts i in
         (length (k .vertices) ≡ 0) ⊎ (mostVertices < length (k .vertices)) ⊎ (mostEdges < length (k .edges)) ⊎ (largestM < k .m) → Gets 3 (lineOf i)
+    -- "Refuse it, [..] written: number 13, at the vertex's line, when e exceeds d, after 3, before 4 and before wish 3's test of m": vertex j of task i, if
+    -- no line before its own breaks a rule
+    pub slip : (i j : ℕ) → Reached i → let k = Meant.taskAt ts i in let x = Meant.vertexAt k j in
+        j < length (k .vertices) → length (k .vertices) ≤ mostVertices → length (k .edges) ≤ mostEdges → k .m ≤ largestM
+        → ((y : Meant.Vertex) → List·Memᴰ y (take j (k .vertices)) → SoundVertex y) → TooLong (x .e) (x .d) → Gets 13 (lineOf i + suc j)
+    -- and no other frame gets it
+    pub slip-only : (n : ℕ) → Gets 13 n → (f : List ℕ) × (frameIn some (framesOf ts) (n - 1) ≡ some f) × Slip f
     -- m above the largest e is 3 at the last vertex's line, after its own checks
     pub mask : (i : ℕ) → Reached i → let k = Meant.taskAt ts i in
         1 ≤ length (k .vertices) → length (k .vertices) ≤ mostVertices → length (k .edges) ≤ mostEdges → k .m ≤ largestM
@@ -123,4 +132,5 @@ pub record Demands : Type 0 where
   pub as-plain-tasks : AsPlainTasks
   pub only-forms : OnlyForms
   pub read-again : ReadAgain
+  pub slips : SlipRefused
   pub calls : WriteDemands

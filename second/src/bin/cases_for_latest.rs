@@ -7,7 +7,7 @@
 mod made;
 
 use made::vertices::{Vertices, ENOUGH};
-use made::{self_edge, task, text};
+use made::{masked_task, self_edge, task, text};
 use second::case::FINISH;
 use second::sequence::write_cases;
 use std::io;
@@ -49,12 +49,15 @@ fn above(tasks: &[String], judged: (u32, u32)) -> String {
     text(&[tasks, &[task(&[judged], &[])]].concat())
 }
 
-/// A vertex without higher tasks: e below d, at d and past it.
+/// A vertex without higher tasks: e below d and at d; and the same held up by a masked tick, which only those at d miss by.
 fn nothing_above(vertices: &mut Vertices) {
-    let text = text(&[task(&[(1, 5), (4, 5), (5, 5), (6, 5), (200, 200)], &[])]);
-    for vertex in 0..5 {
-        for (budget, lent) in [(0, ENOUGH), (1, ENOUGH), (1, (0, 0))] {
-            vertices.push(&text, (0, vertex), budget, lent);
+    let first = task(&[(1, 5), (4, 5), (5, 5), (200, 200)], &[]);
+    let masking = masked_task(1, &[(1, 50)], &[]);
+    for text in [first.clone(), first + &masking].map(|tasks| text(&[tasks])) {
+        for vertex in 0..4 {
+            for (budget, lent) in [(0, ENOUGH), (1, ENOUGH), (1, (0, 0))] {
+                vertices.push(&text, (0, vertex), budget, lent);
+            }
         }
     }
 }

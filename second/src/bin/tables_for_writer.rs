@@ -11,7 +11,7 @@ mod made;
 
 use made::drafts::{Draft, TaskDraft};
 use made::vendors::{damage_vendor_line, mix_in};
-use made::{bench, broken, masked_task, random_task, refusals, task, text};
+use made::{bench, broken, masked_task, random_task, refusals, slips, task, text};
 use made::{vendor_refusals, Random, Size};
 use second::case::{Case, BACK, CELLS, RECORD};
 use second::record::Record;
@@ -29,7 +29,7 @@ const PLENTY: u32 = 4_000;
 /// Random tasks of the texts.
 const SIZE: Size = Size {
     vertices: 4,
-    e: 1_000,
+    e: 200,
     d: (1, 200),
     p: 800,
 };
@@ -142,9 +142,9 @@ fn bench_texts() -> Vec<String> {
 /// The longest texts: without masked lengths, and with them.
 fn longest_texts() -> [String; 2] {
     let edges: Vec<_> = (0..32).map(|n| (n / 12, n % 12, 1_000)).collect();
-    let vertices = [(1_000, 200); 12];
+    let vertices = [(200, 200); 12];
     let plain = task(&vertices, &edges);
-    let masked = masked_task(1_000, &vertices, &edges);
+    let masked = masked_task(200, &vertices, &edges);
     [plain, masked].map(|task| text(&vec![task; 8]))
 }
 
@@ -280,6 +280,7 @@ fn texts() -> Vec<Case> {
     let mut refused = Vec::new();
     refusals::add(&mut refused);
     vendor_refusals::add(&mut refused);
+    slips::add(&mut refused);
     let refused = refused.into_iter().step_by(13);
     cases.extend(in_turn(
         BACK,
@@ -291,17 +292,18 @@ fn texts() -> Vec<Case> {
     cases
 }
 
-/// A random text, with rings and gear tables or without, written once or several times; one in eight is damaged, and one in eight in the
-/// lines of a ring or a gear table, if it has one.
+/// A random text, with rings and gear tables or without, written once or several times; one in eight is damaged, one in eight in the
+/// lines of a ring or a gear table, if it has one, and one in sixteen by a job longer than its own deadline.
 fn random_text(random: &mut Random) -> Case {
     let mut tasks: Vec<_> = (0..=random.below(3))
         .map(|_| random_task(random, &SIZE))
         .collect();
     mix_in(random, &mut tasks, &SIZE);
     let mut text = text(&tasks).into_bytes();
-    match random.below(8) {
-        0 => made::damage(random, &mut text),
-        1 => damage_vendor_line(random, &mut text),
+    match random.below(16) {
+        0 | 1 => made::damage(random, &mut text),
+        2 | 3 => damage_vendor_line(random, &mut text),
+        4 => slips::slip(random, &mut text),
         _ => (),
     }
     Case {

@@ -44,7 +44,7 @@ const SIZES: [Size; 5] = [
     },
 ];
 
-/// Writes the bench examples, R11's unreadable texts among them, R2 with a masked length, and then tables of each size in turn.
+/// Writes the bench examples, the unreadable texts of R4 and R11 among them, R2 with a masked length, and then tables of each size in turn.
 fn main() -> io::Result<()> {
     let mut random = Random(20_261_115);
     let mut texts: Vec<_> = bench::texts().into_iter().map(String::into_bytes).collect();
@@ -66,24 +66,33 @@ fn table(random: &mut Random, size: &Size) -> Vec<u8> {
 }
 
 /// The lines of a random task of one to five vertices, with this d of vertex 0 if there is one.
+///
+/// Every other d is the least separation that follows, and as long as the longest one where none does, so that e can be long, too.
 fn random_task(random: &mut Random, size: &Size, first_d: Option<u32>) -> String {
     let count = 1 + random.below(5);
-    let mut vertices = Vec::new();
-    for _ in 0..count {
-        let e = 1 + random.below(20);
-        vertices.push((e as u32, 1 + random.below(size.p.0) as u32));
-    }
-    if let Some(d) = first_d {
-        vertices[0].1 = d;
-    }
+    let longest = (size.p.0 + size.p.1 - 1) as u32;
+    let mut deadlines = vec![longest; count];
     let rare = 1 + random.below(4);
     let mut edges = Vec::new();
     for pair in 0..count * count {
         if random.below(rare) == 0 {
             let (from, to) = (pair / count, pair % count);
-            let p = (size.p.0 + random.below(size.p.1)) as u32;
-            edges.push((from, to, p.max(vertices[from].1)));
+            let drawn = (size.p.0 + random.below(size.p.1)) as u32;
+            let p = match (from, first_d) {
+                (0, Some(d)) => drawn.max(d),
+                _ => drawn,
+            };
+            deadlines[from] = deadlines[from].min(p);
+            edges.push((from, to, p));
         }
+    }
+    if let Some(d) = first_d {
+        deadlines[0] = d;
+    }
+    let mut vertices = Vec::new();
+    for d in deadlines {
+        let e = 1 + random.below(20) as u32 % d;
+        vertices.push((e, d));
     }
     task(&vertices, &edges)
 }

@@ -1,8 +1,9 @@
 //! Writes the texts that the desk is checked with: a sequence as `second cases` reads it.
 //!
-//! The bench examples, R2 with a masked length, R1 as rings and gear tables, every refusal of a text, inputs around the longest, and
-//! random texts, whole and damaged, most with a masked length, and most with a ring or a gear table. The sequence is the same from run to
-//! run. A first argument gives the random part another seed; with a second one, only so many random texts are written.
+//! The bench examples, R2 with a masked length, R1 as rings and gear tables, every refusal of a text, some of jobs longer than their own
+//! deadline, inputs around the longest, and random texts, whole and damaged, most with a masked length, and most with a ring or a gear
+//! table. The sequence is the same from run to run. A first argument gives the random part another seed; with a second one, only so many
+//! random texts are written.
 
 #![forbid(unsafe_code)]
 
@@ -10,7 +11,7 @@ mod made;
 
 use made::vendors::{damage_vendor_line, mix_in, vendor_task, KINDS};
 use made::{bench, damage, damage_m, masked_task, random_task, refusals, task, text};
-use made::{vendor_refusals, Random, Size};
+use made::{slips, vendor_refusals, Random, Size};
 use second::bounds::INPUT_BYTES;
 use second::case::DESK;
 use second::sequence::write_sequence;
@@ -18,11 +19,13 @@ use std::env;
 use std::io;
 
 /// The random part's own seed.
-const SEED: u64 = 20_261_115;
+const SEED: u64 = 20_261_117;
 /// How many random texts are written.
 const RANDOM_TEXTS: u64 = 270;
 /// One refused text of so many with a ring or a gear table is written; the reader is checked with all of them.
 const ONE_VENDOR_REFUSAL_OF: usize = 6;
+/// One text of so many about jobs longer than their own deadline is written; the reader is checked with all of them.
+const ONE_SLIP_OF: usize = 5;
 /// One random text of so many has a vertex with many groups to examine.
 const ONE_CROWDED_OF: usize = 6;
 
@@ -30,13 +33,13 @@ const ONE_CROWDED_OF: usize = 6;
 const SIZES: [Size; 3] = [
     Size {
         vertices: 4,
-        e: 6,
+        e: 7,
         d: (3, 22),
         p: 8,
     },
     Size {
         vertices: 3,
-        e: 3,
+        e: 4,
         d: (1, 18),
         p: 3,
     },
@@ -69,6 +72,9 @@ fn all_texts(seed: u64) -> Vec<Vec<u8>> {
     let mut refused = Vec::new();
     vendor_refusals::add(&mut refused);
     texts.extend(refused.into_iter().step_by(ONE_VENDOR_REFUSAL_OF));
+    let mut too_long = Vec::new();
+    slips::add(&mut too_long);
+    texts.extend(too_long.into_iter().step_by(ONE_SLIP_OF));
     long_inputs(&mut texts);
     for (n, last_e) in [(11, 1), (12, 1), (11, 2), (12, 2)] {
         texts.push(every_group(n, last_e).into_bytes());
@@ -106,7 +112,7 @@ fn random_texts(seed: u64, count: u64) -> Vec<Vec<u8>> {
     (0..count).map(|_| random_text(&mut random)).collect()
 }
 
-/// A random table's text, whole or damaged in up to five ways.
+/// A random table's text, whole, with a job longer than its own deadline, or damaged in up to five ways.
 fn random_text(random: &mut Random) -> Vec<u8> {
     if random.below(ONE_CROWDED_OF) == 0 {
         return crowded(random).into_bytes();
@@ -121,6 +127,11 @@ fn random_text(random: &mut Random) -> Vec<u8> {
     let mut text = text(&tasks);
     if random.below(2) == 0 {
         return text.into_bytes();
+    }
+    if random.below(4) == 0 {
+        let mut text = text.into_bytes();
+        slips::slip(random, &mut text);
+        return text;
     }
     if random.below(2) == 0 {
         text = with_a_line_moved(random, &text);

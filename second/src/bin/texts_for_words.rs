@@ -73,7 +73,7 @@ fn lines(texts: &mut Vec<Vec<u8>>) {
     }
 }
 
-/// Refusals 2 to 5.
+/// Refusals 2 to 5 and 13.
 fn rules(texts: &mut Vec<Vec<u8>>) {
     for (line, faulty) in [
         (1, "00\n"),
@@ -92,6 +92,8 @@ fn rules(texts: &mut Vec<Vec<u8>>) {
         (1, "050d\n"),
         (1, "050202\n"),
         (3, "06000100050005\n"),
+        (2, "0200060005\n"),
+        (3, "0203e80001\n"),
     ] {
         texts.push(with(line, faulty));
     }
@@ -101,6 +103,7 @@ fn rules(texts: &mut Vec<Vec<u8>>) {
     for text in [
         "0702\n06000100050005\n06000100060005\n",
         "0501\n06000100c90064\n",
+        "0702\n06000500050005\n06000600050004\n",
     ] {
         texts.push(text.into());
     }
@@ -124,7 +127,7 @@ fn ends(texts: &mut Vec<Vec<u8>>) {
 /// Refusal 9 of a task that isn't the first, refusal 10, one tick and one group, the longest paths, and a worst finish that isn't found.
 fn verdicts(texts: &mut Vec<Vec<u8>>) {
     let few = self_edge(1, 5, 5);
-    let below = task(&[(1, 31), (40, 21)], &[]);
+    let below = task(&[(1, 31), (20, 21)], &[]);
     let mut longest = vec![self_edge(1, 1, 1); 7];
     longest.push(task(&[(1, 200)], &[]));
     let mut cells = vec![bench::r10(4); 4];
@@ -135,19 +138,20 @@ fn verdicts(texts: &mut Vec<Vec<u8>>) {
     let tables = [
         vec![few, bench::r10(4), below],
         cells,
-        vec![task(&[(1, 1), (2, 1), (3, 1)], &[]), task(&[(1, 1)], &[])],
+        vec![task(&[(1, 1)], &[]), task(&[(1, 1), (1, 2)], &[])],
         longest,
         not_found,
     ];
     texts.extend(tables.map(|tasks| text(&tasks).into_bytes()));
 }
 
-/// Masked time: R2 with it; a miss with nothing above, by one tick and by more; the first of the lower tasks that mask longest; and a worst finish that isn't found.
+/// Masked time: R2 with it; a miss with nothing above, by one tick and by more, and none by its own masked length; the first of the lower tasks that mask
+/// longest; and a worst finish that isn't found.
 fn masked(texts: &mut Vec<Vec<u8>>) {
     texts.extend(bench::masked_texts().map(String::into_bytes));
     let masking = |m: u32| masked_task(m, &[(m, 50)], &[]);
-    let late = || task(&[(2, 2), (3, 2)], &[]);
-    let own = masked_task(3, &[(3, 2)], &[]);
+    let late = || task(&[(2, 2), (1, 2)], &[]);
+    let own = masked_task(3, &[(3, 3)], &[]);
     let mut not_found = vec![task(&[(1, 9); 12], &[]); 4];
     not_found.push(task(&[(3, 9), (1, 7), (4, 9)], &[(1, 2, 7)]));
     not_found.extend([task(&[(1, 11)], &[]), masked_task(1, &[(1, 1)], &[])]);

@@ -46,8 +46,8 @@ fn random_task(random: &mut Random, size: &Size) -> Task {
     let mut task = Task::default();
     let longest = [size.d, size.d / 3, 2][random.below(3)];
     for _ in 0..random.between(1, size.vertices) {
-        let e = random.between(1, size.e);
-        task.vertices.push((e, random.between(1, longest)));
+        let d = random.between(1, longest);
+        task.vertices.push((random.between(1, size.e.min(d)), d));
     }
     let count = task.vertices.len();
     let mut pairs: Vec<_> = (0..count * count).map(|n| (n / count, n % count)).collect();
@@ -81,7 +81,7 @@ pub fn random_m(random: &mut Random, task: &Task) -> u32 {
 pub fn damage(random: &mut Random, text: &mut Vec<u8>) {
     let at = random.below(text.len() + 1);
     let digit = b"0123456789abcdef"[random.below(16)];
-    match random.below(10) {
+    match random.below(11) {
         0 => text.truncate(at),
         1 => text.insert(at, digit),
         2 => text.insert(at, random.below(256) as u8),
@@ -91,6 +91,7 @@ pub fn damage(random: &mut Random, text: &mut Vec<u8>) {
         6 => damage_lines(random, text),
         7 => text.push(digit),
         8 => damage_m(random, text),
+        9 => slip(random, text),
         _ if at < text.len() => text[at] = digit,
         _ => (),
     }
@@ -126,6 +127,31 @@ fn damage_m(random: &mut Random, text: &mut [u8]) {
     let at = random.below(masked.len());
     let m = [0, 1, 2, 3, 4, 1_000, 1_001, random.below(65_536)][random.below(8)];
     masked[at][6..].copy_from_slice(format!("{m:04x}").as_bytes());
+}
+
+/// Makes the job of some vertex longer than its own deadline, if there is a vertex; at times another number of its line is 0, too.
+fn slip(random: &mut Random, text: &mut [u8]) {
+    let lines = text.split_mut(|&b| b == b'\n');
+    let is_vertex = |line: &&mut [u8]| match line.len() {
+        10 => line.starts_with(b"02"),
+        14 => line.starts_with(b"06"),
+        _ => false,
+    };
+    let mut vertices: Vec<_> = lines.filter(is_vertex).collect();
+    if vertices.is_empty() {
+        return;
+    }
+    let at = random.below(vertices.len());
+    let line = &mut vertices[at];
+    let d = String::from_utf8_lossy(&line[6..10]).into_owned();
+    let d = u32::from_str_radix(&d, 16).unwrap_or(0);
+    let e = [d + 1, d + 1, 256, 1_000, 1_001][random.below(5)] % 65_536;
+    line[2..6].copy_from_slice(format!("{e:04x}").as_bytes());
+    if random.below(4) == 0 {
+        let numbers = (line.len() - 2) / 4;
+        let first = 2 + 4 * random.below(numbers);
+        line[first..first + 4].copy_from_slice(b"0000");
+    }
 }
 
 /// Bytes without any sense.

@@ -1,4 +1,4 @@
-//! The refusal sheet's rows 1 to 7, with what wishes 3 and 5 add to them, once more, line by line and without a reader's structure.
+//! The refusal sheet's rows 1 to 7, with what wishes 3 and 5 add to them, and wish 6's row 13, once more, line by line and without a reader's structure.
 
 use super::Task;
 
@@ -46,7 +46,7 @@ fn numbers(line: &[u8]) -> Option<Vec<u32>> {
 }
 
 impl Expected {
-    /// Takes a frame: whether it is the end, or the first of rows 2 to 5 that holds.
+    /// Takes a frame: whether it is the end, or the first of rows 2, 3, 13, 4 and 5 that holds.
     fn take(&mut self, frame: &[u32]) -> Result<bool, u8> {
         let inside = self.vertices + self.edges + self.vendor_vertices > 0;
         let allowed = match frame[0] {
@@ -104,6 +104,9 @@ impl Expected {
         if e == 0 || e > 1000 || d == 0 || d > 200 {
             return Err(3);
         }
+        if e > d {
+            return Err(13);
+        }
         self.vertices -= 1;
         let task = self.tasks.last_mut().unwrap();
         task.vertices.push((e, d));
@@ -144,6 +147,9 @@ impl Expected {
     fn take_vendor_vertex(&mut self, e: u32, d: u32, p: u32) -> Result<(), u8> {
         if e == 0 || e > 1000 || d == 0 || d > 200 || p == 0 || p > 1000 {
             return Err(3);
+        }
+        if e > d {
+            return Err(13);
         }
         if d > p {
             return Err(4);

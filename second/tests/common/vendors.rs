@@ -42,7 +42,7 @@ pub fn random_vendor_task(random: &mut Random, most: (u32, u32, u32)) -> (String
     for _ in 0..count {
         let d = random.between(1, most.1);
         let p = [d, random.between(d, most.2)][random.below(2)];
-        vertices.push((random.between(1, most.0), d, p));
+        vertices.push((random.between(1, most.0.min(d)), d, p));
     }
     let kind = KINDS[random.below(2)];
     (vendor_task(kind, &vertices), plain_task(kind, &vertices))

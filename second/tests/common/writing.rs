@@ -1,4 +1,4 @@
-//! What the tests of the writer share: the call on a marked area, and wish 4's rules once more, as a list of all faults.
+//! What the tests of the writer share: the call on a marked area, and the rules of wishes 4 and 6 once more, as a list of all faults.
 
 use super::{text, Task};
 use second::record::{EdgeRecord, Record, TaskRecord, VertexRecord};
@@ -67,8 +67,8 @@ pub fn said(tasks: &[Task], bytes: usize) -> Said {
 
 /// What has to be said of the tasks and an area of so many bytes.
 pub fn expected(tasks: &[Task], bytes: usize) -> Said {
-    if let Some((line, number)) = faults(tasks).into_iter().min() {
-        return Err((number, line));
+    if let Some((line, place)) = faults(tasks).into_iter().min() {
+        return Err((ORDER[place], line));
     }
     let needed = text(tasks).len();
     match needed <= bytes {
@@ -77,16 +77,26 @@ pub fn expected(tasks: &[Task], bytes: usize) -> Said {
     }
 }
 
-/// All faults of a table, each as a line and the number of its row.
-fn faults(tasks: &[Task]) -> Vec<(usize, u8)> {
+/// The numbers that a line can be refused by, in the order in which they come; the second 3 is that of a masked length above its task's largest e.
+const ORDER: [u8; 6] = [2, 3, 13, 3, 4, 5];
+/// The places of that order.
+const FRAME: usize = 0;
+const NUMBER: usize = 1;
+const LONG_JOB: usize = 2;
+const LARGEST_E: usize = 3;
+const DEADLINE: usize = 4;
+const EDGE_ORDER: usize = 5;
+
+/// All faults of a table, each as a line and its place in the order within a line.
+fn faults(tasks: &[Task]) -> Vec<(usize, usize)> {
     let mut faults = Vec::new();
     if tasks.is_empty() {
-        faults.push((1, 2));
+        faults.push((1, FRAME));
     }
     let mut line = 1;
     for (number, task) in tasks.iter().enumerate() {
         if number >= 8 {
-            faults.push((line, 2));
+            faults.push((line, FRAME));
         }
         add_faults(&mut faults, line, task);
         line += 1 + task.vertices.len() + task.edges.len();
@@ -95,31 +105,34 @@ fn faults(tasks: &[Task]) -> Vec<(usize, u8)> {
 }
 
 /// Adds all faults of a task whose frame is at this line.
-fn add_faults(faults: &mut Vec<(usize, u8)>, line: usize, task: &Task) {
+fn add_faults(faults: &mut Vec<(usize, usize)>, line: usize, task: &Task) {
     let (vertices, edges) = (task.vertices.len(), task.edges.len());
     if vertices == 0 || vertices > 12 || edges > 32 || task.m > 1_000 {
-        faults.push((line, 3));
+        faults.push((line, NUMBER));
     }
     for (number, &(e, d)) in task.vertices.iter().enumerate() {
         if e == 0 || e > 1_000 || d == 0 || d > 200 {
-            faults.push((line + 1 + number, 3));
+            faults.push((line + 1 + number, NUMBER));
+        }
+        if e > d {
+            faults.push((line + 1 + number, LONG_JOB));
         }
     }
     if vertices > 0 && task.m > task.largest_e() {
-        faults.push((line + vertices, 3));
+        faults.push((line + vertices, LARGEST_E));
     }
     for (number, &(from, to, p)) in task.edges.iter().enumerate() {
         let line = line + vertices + 1 + number;
         if from >= vertices || to >= vertices || p == 0 || p > 1_000 {
-            faults.push((line, 3));
+            faults.push((line, NUMBER));
         }
         if from < vertices && task.vertices[from].1 > p {
-            faults.push((line, 4));
+            faults.push((line, DEADLINE));
         }
         if number > 0 {
             let before = task.edges[number - 1];
             if (from, to) <= (before.0, before.1) {
-                faults.push((line, 5));
+                faults.push((line, EDGE_ORDER));
             }
         }
     }

@@ -1,4 +1,4 @@
-use Rattle.frames.proofs.Answers.{held, failed, LinkSeen, link-kind, link-outside, link-late, link-taken}
+use Rattle.frames.proofs.Answers.{held, failed, LinkSeen, link-kind, link-outside, link-slip, link-late, link-taken}
 use Rattle.rules.proofs.Within.{LinkBounds, link-bounds}
 use Rattle.frames.proofs.Expected.{starts-says}
 use Prim.Native.Nat.{_<_}
@@ -60,27 +60,39 @@ fault-requires-2 c κs = search needs
 returns-2 : tie.Need-returns-2
 returns-2 c = link-outside (seen (c .before .before)) (failed (c .before .before .link-in .ensures) (c .before .if2 .taken)) (c .fault2 .ensures)
 
-edge-spaced-requires : tie.Need-edge-spaced-requires
-edge-spaced-requires c κs = search needs
+job-in-time-requires : tie.Need-job-in-time-requires
+job-in-time-requires c κs = search needs
 
 returns-3 : tie.Need-returns-3
 returns-3 c =
     let test = c .before .before in
-    link-late (seen (test .before)) (held (test .before .link-in .ensures) (test .if2 .left)) (failed (c .before .edge-spaced .ensures) (c .if3 .taken))
+    link-slip (seen (test .before)) (held (test .before .link-in .ensures) (test .if2 .left)) (failed (c .before .job-in-time .ensures) (c .if3 .taken))
 
-cast-t14 : tie.Need-cast-t14
-cast-t14 c = omega (arith, inside (c .before .before) .vertex .e-in)
-
-cast-t16 : tie.Need-cast-t16
-cast-t16 c = omega (arith, inside (c .before .before) .vertex .d-in)
-
-cast-t14-2 : tie.Need-cast-t14-2
-cast-t14-2 c = omega (arith, inside (c .before .before) .p-in)
+edge-spaced-requires : tie.Need-edge-spaced-requires
+edge-spaced-requires c κs = search needs
 
 returns-4 : tie.Need-returns-4
 returns-4 c =
-    let test = c .before .before in
-    link-taken (seen (test .before)) (held (test .before .link-in .ensures) (test .if2 .left)) (held (c .before .edge-spaced .ensures) (c .if3 .left))
+    let short = c .before .before in
+    let test = short .before .before in
+    link-late (seen (test .before)) (held (test .before .link-in .ensures) (test .if2 .left)) (held (short .before .job-in-time .ensures) (short .if3 .left))
+    (failed (c .before .edge-spaced .ensures) (c .if4 .taken))
+
+cast-t15 : tie.Need-cast-t15
+cast-t15 c = omega (arith, inside (c .before .before .before .before) .vertex .e-in)
+
+cast-t17 : tie.Need-cast-t17
+cast-t17 c = omega (arith, inside (c .before .before .before .before) .vertex .d-in)
+
+cast-t15-2 : tie.Need-cast-t15-2
+cast-t15-2 c = omega (arith, inside (c .before .before .before .before) .p-in)
+
+returns-5 : tie.Need-returns-5
+returns-5 c =
+    let short = c .before .before in
+    let test = short .before .before in
+    link-taken (seen (test .before)) (held (test .before .link-in .ensures) (test .if2 .left)) (held (short .before .job-in-time .ensures) (short .if3 .left))
+    (held (c .before .edge-spaced .ensures) (c .if4 .left))
 
 pub link-line-spec : {M : Type 1} → statement M
 link-line-spec =
@@ -95,9 +107,11 @@ link-line-spec =
     link-in-requires
     fault-requires-2
     returns-2
-    edge-spaced-requires
+    job-in-time-requires
     returns-3
-    cast-t14
-    cast-t16
-    cast-t14-2
-    returns-4)
+    edge-spaced-requires
+    returns-4
+    cast-t15
+    cast-t17
+    cast-t15-2
+    returns-5)

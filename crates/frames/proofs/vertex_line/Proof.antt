@@ -1,4 +1,4 @@
-use Rattle.frames.proofs.Answers.{held, failed, VertexSeen, vertex-kind, vertex-outside, vertex-taken}
+use Rattle.frames.proofs.Answers.{held, failed, VertexSeen, vertex-kind, vertex-outside, vertex-slip, vertex-taken}
 use Rattle.rules.proofs.Within.{VertexBounds, vertex-bounds}
 use Rattle.frames.proofs.Expected.{starts-says}
 use Prim.Native.Nat.{_<_}
@@ -48,14 +48,24 @@ fault-requires-2 c κs = search needs
 returns-2 : tie.Need-returns-2
 returns-2 c = vertex-outside (seen (c .before .before)) (failed (c .before .before .vertex-in .ensures) (c .before .if2 .taken)) (c .fault2 .ensures)
 
-cast-t11 : tie.Need-cast-t11
-cast-t11 c = omega (arith, inside c .e-in)
-
-cast-t13 : tie.Need-cast-t13
-cast-t13 c = omega (arith, inside c .d-in)
+job-in-time-requires : tie.Need-job-in-time-requires
+job-in-time-requires c κs = search needs
 
 returns-3 : tie.Need-returns-3
-returns-3 c = vertex-taken (seen (c .before)) (held (c .before .vertex-in .ensures) (c .if2 .left))
+returns-3 c =
+    let test = c .before .before in
+    vertex-slip (seen (test .before)) (held (test .before .vertex-in .ensures) (test .if2 .left)) (failed (c .before .job-in-time .ensures) (c .if3 .taken))
+
+cast-t12 : tie.Need-cast-t12
+cast-t12 c = omega (arith, inside (c .before .before) .e-in)
+
+cast-t14 : tie.Need-cast-t14
+cast-t14 c = omega (arith, inside (c .before .before) .d-in)
+
+returns-4 : tie.Need-returns-4
+returns-4 c =
+    let test = c .before .before in
+    vertex-taken (seen (test .before)) (held (test .before .vertex-in .ensures) (test .if2 .left)) (held (c .before .job-in-time .ensures) (c .if3 .left))
 
 pub vertex-line-spec : {M : Type 1} → statement M
 vertex-line-spec =
@@ -69,6 +79,8 @@ vertex-line-spec =
     vertex-in-requires
     fault-requires-2
     returns-2
-    cast-t11
-    cast-t13
-    returns-3)
+    job-in-time-requires
+    returns-3
+    cast-t12
+    cast-t14
+    returns-4)

@@ -33,10 +33,10 @@ cast-result : tie.Need-cast-result
 cast-result c = search needs
 
 mul-result : tie.Need-mul-result
-mul-result c = omega (arith, refusal (c .before) .bounds .1)
+mul-result c = search needs
 
 add-result : tie.Need-add-result
-add-result c = omega (arith, refusal (c .before .before) .bounds .1, refusal (c .before .before) .bounds .3)
+add-result c = omega (arith, refusal (c .before .before) .bounds .2)
 
 returns-2 : tie.Need-returns-2
 returns-2 c = check-refused (refusal (c .before .before)) (c .before .refusal-number .result) (c .before .refusal-number .ensures)

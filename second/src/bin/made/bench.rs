@@ -41,12 +41,12 @@ pub fn vendor_texts() -> Vec<String> {
     texts
 }
 
-/// R3's task, below it a vertex that always misses and whose d is the horizon.
+/// R3's task, below it a vertex that misses and whose d is the horizon: 4 + 2 by tick 5, 4 + 4 by tick 6.
 pub fn r3(horizon: u32) -> String {
-    text(&[self_edge(2, 5, 5), task(&[(9, horizon)], &[])])
+    text(&[self_edge(2, 5, 5), task(&[(4, horizon)], &[])])
 }
 
-/// R4's text.
+/// R4's text, whose only job is longer than its own deadline.
 pub fn r4() -> String {
     text(&[task(&[(3, 2)], &[])])
 }

@@ -1,9 +1,13 @@
-//! Tables at each bound of the rules and one past it, at the first, a middle and the last line; with edges out of order; and with several faults.
+//! Tables at each bound of the rules and one past it, at the first, a middle and the last line; with edges out of order; with jobs longer than their own
+//! deadline; and with several faults.
 
 use super::drafts::{Draft, TaskDraft};
+use super::slips::{BESIDE_M, VERTICES};
 
 /// The edges (from, to) of a task of three vertices.
 const PAIRS: [(u16, u16); 3] = [(0, 1), (1, 0), (2, 2)];
+/// The e of a sound task whose d is 5: the largest is just as long.
+const E: [u16; 3] = [2, 5, 3];
 
 /// Every table that is made here.
 pub fn tables() -> Vec<Draft> {
@@ -15,9 +19,11 @@ pub fn tables() -> Vec<Draft> {
         ends(&mut tables, place, &[2, 3, 255]);
         deadlines(&mut tables, place);
         order(&mut tables, place);
+        slips(&mut tables, place);
     }
     two_lines(&mut tables);
     one_line(&mut tables);
+    slips_beside_m(&mut tables);
     tables
 }
 
@@ -34,7 +40,7 @@ fn table(e: [u16; 3], d: u16, p: u16) -> Draft {
 
 /// Three tasks, the one at this place with this task instead.
 fn with_task(place: usize, task: TaskDraft) -> Draft {
-    let mut table = table([2, 7, 3], 5, 9);
+    let mut table = table(E, 5, 9);
     table.tasks[place] = task;
     table
 }
@@ -54,18 +60,18 @@ fn counts(tables: &mut Vec<Draft>, place: usize) {
 
 /// e, d and p.
 fn numbers(tables: &mut Vec<Draft>, place: usize) {
-    for e in [0, 1, 1_000, 1_001, 65_535] {
-        let mut table = table([2, 7, 3], 5, 9);
+    for e in [0, 1, 6, 1_000, 1_001, 65_535] {
+        let mut table = table(E, 5, 9);
         table.tasks[place].vertices[place].0 = e;
         tables.push(table);
     }
     for d in [0, 1, 200, 201, 65_535] {
-        let mut table = table([2, 7, 3], 5, 200);
+        let mut table = table([1; 3], 5, 200);
         table.tasks[place].vertices[place].1 = d;
         tables.push(table);
     }
     for p in [0, 1, 1_000, 1_001, 65_535] {
-        let mut table = table([2, 7, 3], 1, 9);
+        let mut table = table([1; 3], 1, 9);
         table.tasks[place].edges[place].2 = p;
         tables.push(table);
     }
@@ -73,19 +79,18 @@ fn numbers(tables: &mut Vec<Draft>, place: usize) {
 
 /// m, with the largest e in the first, the second and the last vertex, and with the largest that there is.
 fn masked_lengths(tables: &mut Vec<Draft>, place: usize) {
-    let mut push = |e: [u16; 3], m: u16| {
-        let task = task(e, 5, 9);
+    let mut push = |task: TaskDraft, m: u16| {
         tables.push(with_task(place, TaskDraft { m, ..task }));
     };
-    for m in [0, 1, 7, 8, 1_000, 1_001, 65_535] {
-        push([2, 7, 3], m);
+    for m in [0, 1, 5, 6, 1_000, 1_001, 65_535] {
+        push(task(E, 5, 9), m);
     }
-    for m in [999, 1_000, 1_001, 65_535] {
-        push([2, 1_000, 3], m);
+    for m in [199, 200, 201] {
+        push(task([2, 200, 3], 200, 200), m);
     }
-    for m in [7, 8] {
-        push([7, 2, 3], m);
-        push([2, 3, 7], m);
+    for m in [5, 6] {
+        push(task([5, 2, 3], 5, 9), m);
+        push(task([2, 3, 5], 5, 9), m);
     }
 }
 
@@ -102,7 +107,7 @@ pub fn ends(tables: &mut Vec<Draft>, place: usize, numbers: &[u16]) {
 /// d of the starting vertex at p and one above.
 fn deadlines(tables: &mut Vec<Draft>, place: usize) {
     for (d, p) in [(9, 9), (10, 9), (200, 200), (200, 199)] {
-        let mut task = task([2, 7, 3], 1, 9);
+        let mut task = task([1; 3], 1, 9);
         task.vertices[usize::from(PAIRS[place].0)].1 = d;
         task.edges[place].2 = p;
         tables.push(with_task(place, task));
@@ -127,13 +132,32 @@ fn order(tables: &mut Vec<Draft>, place: usize) {
     }
 }
 
+/// e and d around each other, in the first, the second and the last vertex of a table's only task.
+fn slips(tables: &mut Vec<Draft>, place: usize) {
+    for vertex in VERTICES {
+        let mut vertices = [(1, 9); 3];
+        vertices[place] = vertex;
+        tables.push(Draft::of(vec![TaskDraft::of(0, &vertices, &[])]));
+    }
+}
+
+/// The same beside a masked length.
+fn slips_beside_m(tables: &mut Vec<Draft>) {
+    for (m, place, e, d) in BESIDE_M {
+        let mut vertices = [(3, 9); 3];
+        vertices[place] = (e, d);
+        tables.push(Draft::of(vec![TaskDraft::of(m, &vertices, &[])]));
+    }
+}
+
 /// Each of some faults, and each two of them; the first line's decides.
 fn two_lines(tables: &mut Vec<Draft>) {
-    let faults: [fn(&mut Draft); 9] = [
+    let faults: [fn(&mut Draft); 10] = [
         |table| table.tasks[0].m = 1_001,
         |table| table.tasks[0].vertices[0].1 = 201,
         |table| table.tasks[0].edges[1].2 = 4,
         |table| table.tasks[1].nv = 13,
+        |table| table.tasks[1].vertices[1].0 = 6,
         |table| table.tasks[1].m = 8,
         |table| table.tasks[1].edges[0].1 = 3,
         |table| table.tasks[1].edges[1] = (0, 1, 9),
@@ -142,7 +166,7 @@ fn two_lines(tables: &mut Vec<Draft>) {
     ];
     for (number, first) in faults.iter().enumerate() {
         for second in &faults[number..] {
-            let mut table = table([2, 7, 3], 5, 9);
+            let mut table = table(E, 5, 9);
             second(&mut table);
             first(&mut table);
             tables.push(table);
@@ -166,17 +190,17 @@ fn one_line(tables: &mut Vec<Draft>) {
         (0, 2, 5),
         (255, 255, 65_535),
     ] {
-        let mut task = task([2, 7, 3], 5, 9);
+        let mut task = task(E, 5, 9);
         task.edges[2] = edge;
         tables.push(with_task(1, task));
     }
-    for (m, last) in [(8, (0, 5)), (8, (3, 201)), (8, (0, 0)), (7, (0, 201))] {
-        let mut task = task([2, 7, 3], 5, 9);
+    for (m, last) in [(8, (0, 5)), (8, (3, 201)), (8, (0, 0)), (5, (0, 201))] {
+        let mut task = task(E, 5, 9);
         task.vertices[2] = last;
         tables.push(with_task(1, TaskDraft { m, ..task }));
     }
     for (m, nv, ne) in [(1_001, 0, 33), (0, 13, 33), (1_001, 3, 33), (1_001, 13, 3)] {
-        let task = task([2, 7, 3], 5, 9);
+        let task = task(E, 5, 9);
         tables.push(with_task(1, TaskDraft { m, nv, ne, ..task }));
     }
 }

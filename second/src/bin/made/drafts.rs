@@ -11,7 +11,7 @@ const PLACES: (usize, usize, usize) = (8, 12, 32);
 /// Numbers up to the largest, in tasks of few vertices.
 const FEW_VERTICES: Size = Size {
     vertices: 4,
-    e: 1_000,
+    e: 200,
     d: (1, 200),
     p: 800,
 };
@@ -178,8 +178,9 @@ impl Draft {
             let value = [0, 1, 12, 13, 32, 33, 1_000, 1_001, junk(random)][random.below(9)];
             *[&mut task.m, &mut task.nv, &mut task.ne][number] = value;
         } else if line <= usize::from(task.nv) {
-            let value = [0, 1, 200, 201, 1_000, 1_001, junk(random)][random.below(7)];
             let (e, d) = &mut task.vertices[line - 1];
+            // As e, the last is longer than its own deadline by one tick.
+            let value = [0, 1, 200, 201, 1_000, 1_001, junk(random), *d + 1][random.below(8)];
             *[e, d][number % 2] = value;
         } else {
             let (from, to, p) = &mut task.edges[line - 1 - usize::from(task.nv)];

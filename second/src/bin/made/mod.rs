@@ -1,5 +1,5 @@
-//! What the generators share: lines of a text, the bench examples, the refusals of a text, rings and gear tables, cases of one vertex, tables for the
-//! writer, and a pseudo-random generator.
+//! What the generators share: lines of a text, the bench examples, the refusals of a text, rings and gear tables, jobs longer than their own deadline,
+//! cases of one vertex, tables for the writer, and a pseudo-random generator.
 
 // No generator uses all of it.
 #![allow(dead_code)]
@@ -8,6 +8,7 @@ pub mod bench;
 pub mod broken;
 pub mod drafts;
 pub mod refusals;
+pub mod slips;
 pub mod vendor_refusals;
 pub mod vendors;
 pub mod vertices;
@@ -121,9 +122,7 @@ fn random_graph(random: &mut Random, size: &Size) -> Graph {
     let count = 1 + random.below(size.vertices);
     let mut vertices = Vec::new();
     for _ in 0..count {
-        let e = 1 + random.below(size.e);
-        let d = size.d.0 + random.below(size.d.1);
-        vertices.push((e as u32, d as u32));
+        vertices.push(random_vertex(random, size));
     }
     let mut edges = Vec::new();
     for pair in 0..count * count {
@@ -138,6 +137,25 @@ fn random_graph(random: &mut Random, size: &Size) -> Graph {
     (vertices, edges)
 }
 
+/// The e and d of a random valid vertex: behind d, what is drawn for e begins again with 1.
+fn random_vertex(random: &mut Random, size: &Size) -> (u32, u32) {
+    let drawn = random.below(size.e);
+    let d = size.d.0 + random.below(size.d.1);
+    let e = 1 + drawn % d;
+    (e as u32, d as u32)
+}
+
+/// The number of four digits from this byte of a line on; 0 if there are others.
+fn number_at(line: &[u8], first: usize) -> u16 {
+    let digits = String::from_utf8_lossy(&line[first..first + 4]);
+    u16::from_str_radix(&digits, 16).unwrap_or(0)
+}
+
+/// Puts a number's four digits into a line, from this byte on.
+fn put_number(line: &mut [u8], first: usize, number: u16) {
+    line[first..first + 4].copy_from_slice(format!("{number:04x}").as_bytes());
+}
+
 /// Changes the masked length of a random task that has one, at times to one that is out of bounds or too large.
 pub fn damage_m(random: &mut Random, text: &mut [u8]) {
     let lines = text.split_mut(|&byte| byte == b'\n');
@@ -148,7 +166,7 @@ pub fn damage_m(random: &mut Random, text: &mut [u8]) {
     }
     let at = random.below(masked.len());
     let m = [0, 1, 5, 9, 1_000, 1_001, random.below(65_536)][random.below(7)];
-    masked[at][6..].copy_from_slice(format!("{m:04x}").as_bytes());
+    put_number(masked[at], 6, m as u16);
 }
 
 /// Changes, puts in, takes out or cuts off at a random byte of a text that has one.

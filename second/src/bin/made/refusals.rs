@@ -1,4 +1,4 @@
-//! Texts with every refusal from 1 to 7, at each bound and one past it.
+//! Texts with every refusal from 1 to 7, at each bound and one past it. Those of refusal 13 are in `slips`.
 
 use super::{bench, edge_line, masked_task, masked_task_line, task, vertex_line};
 
@@ -139,11 +139,11 @@ fn counts(texts: &mut Vec<Vec<u8>>) {
 
 /// Refusal 3 for a masked length: out of its bounds, and above the largest e, wherever that is.
 fn masked_lengths(texts: &mut Vec<Vec<u8>>) {
-    for m in [0, 1, 1_000, 1_001, 65_535] {
-        texts.push((masked_task(m, &[(1_000, 1)], &[]) + "00\n").into_bytes());
-        let below = masked_task(m, &[(999, 1)], &[]) + "00\n";
+    for m in [0, 1, 200, 201, 1_000, 1_001, 65_535] {
+        texts.push((masked_task(m, &[(200, 200)], &[]) + "00\n").into_bytes());
+        let below = masked_task(m, &[(199, 200)], &[]) + "00\n";
         texts.push(below.clone().into_bytes());
-        texts.push((task(&[(1_000, 1)], &[]) + &below).into_bytes());
+        texts.push((task(&[(200, 200)], &[]) + &below).into_bytes());
     }
     for largest in 0..3 {
         let mut vertices = [(3, 9); 3];
@@ -249,11 +249,11 @@ fn ends(texts: &mut Vec<Vec<u8>>) {
         texts.push(bench::r1(last_e).into_bytes());
     }
     let edges: Vec<_> = (0..32).map(|n| (n / 12, n % 12, 1_000)).collect();
-    let vertices = [(1_000, 200); 12];
+    let vertices = [(200, 200); 12];
     // Without masked lengths, and with them.
     let longest = task(&vertices, &edges).repeat(8) + "00\n";
     texts.push(longest.into_bytes());
-    let longest = masked_task(1_000, &vertices, &edges).repeat(8) + "00\n";
+    let longest = masked_task(200, &vertices, &edges).repeat(8) + "00\n";
     texts.push(longest.clone().into_bytes());
     texts.push((longest + "\n").into_bytes());
 }

@@ -190,7 +190,7 @@ fn ends(texts: &mut Vec<Vec<u8>>) {
         texts.push((LINES.concat() + more).into_bytes());
     }
     for kind in KINDS {
-        let longest = vendor_task(kind, &[(1_000, 200, 1_000); 12]).repeat(8);
+        let longest = vendor_task(kind, &[(200, 200, 1_000); 12]).repeat(8);
         texts.push((longest + "00\n").into_bytes());
     }
 }

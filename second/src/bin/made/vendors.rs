@@ -1,6 +1,6 @@
 //! Rings and gear tables: their lines, random ones among a table's tasks, and damage to their lines.
 
-use super::{Random, Size};
+use super::{number_at, put_number, random_vertex, Random, Size};
 
 /// The first byte of a ring and of a gear table.
 pub const KINDS: [&str; 2] = ["05", "07"];
@@ -37,10 +37,9 @@ fn random_vendor_task(random: &mut Random, size: &Size) -> String {
     };
     let mut vertices = Vec::new();
     for _ in 0..count {
-        let e = 1 + random.below(size.e);
-        let d = size.d.0 + random.below(size.d.1);
-        let p = d + random.below(size.p);
-        vertices.push((e as u32, d as u32, p as u32));
+        let (e, d) = random_vertex(random, size);
+        let p = d + random.below(size.p) as u32;
+        vertices.push((e, d, p));
     }
     vendor_task(KINDS[random.below(2)], &vertices)
 }
@@ -70,10 +69,9 @@ pub fn damage_vendor_line(random: &mut Random, text: &mut [u8]) {
 
 /// Puts another number into the line of a vertex frame with a separation: e, d or p, or the p that is one below its d.
 fn damage_vendor_vertex(random: &mut Random, line: &mut [u8]) {
-    let d = u16::from_str_radix(&String::from_utf8_lossy(&line[6..10]), 16);
-    let below_d = d.unwrap_or(1).saturating_sub(1);
+    let below_d = number_at(line, 6).saturating_sub(1);
     let any = random.below(65_536) as u16;
     let number = [0, 1, 9, 200, 201, 1_000, 1_001, any][random.below(8)];
     let (first, number) = [(2, number), (6, number), (10, number), (10, below_d)][random.below(4)];
-    line[first..first + 4].copy_from_slice(format!("{number:04x}").as_bytes());
+    put_number(line, first, number);
 }

@@ -3,6 +3,7 @@
 //! The bench examples, masked lengths, every refusal, and random tables with budgets and areas around what they need.
 
 use super::bench::{masked_texts, r1, r10, r10_texts, r3, r4, r5, r7, R11_TEXTS};
+use super::vendors::vendor_task;
 use super::{
     edge_line, masked_task, random_task, self_edge, task, text, vertex_line, Random, Size,
 };
@@ -95,25 +96,30 @@ impl Vertices {
         }
     }
 
-    /// R2 with a masked length below it or above it; e + B around d, the largest m, the largest of several, and another count and choice with another B.
+    /// R2 with a masked length below it or above it; e + B around d and beyond it, the largest m, the largest of several, and another count and choice with
+    /// another B.
     pub fn masked(&mut self) {
         for (text, judged) in masked_texts().iter().zip([2, 2, 3, 3]) {
             self.push(text, (judged, 0), 100_000, (40, 30));
         }
         let masking = |m: u32| masked_task(m, &[(m, 50)], &[]);
-        let alone = text(&[task(&[(1, 5), (3, 5), (4, 5)], &[]), masking(2)]);
-        for vertex in 0..3 {
+        let alone = text(&[task(&[(1, 5), (3, 5), (4, 5), (5, 5)], &[]), masking(2)]);
+        for vertex in 0..4 {
             self.push(&alone, (0, vertex), 1, (0, 0));
         }
-        let longest = text(&[task(&[(1_000, 200)], &[]), masking(1_000)]);
-        self.push(&longest, (0, 0), 1, (0, 0));
+        for (m, vertex) in [(199, 0), (200, 0), (200, 1)] {
+            let longest = masked_task(m, &[(200, 200)], &[]);
+            let tasks = [task(&[(1, 200), (200, 200)], &[]), longest];
+            self.push(&text(&tasks), (0, vertex), 1, (0, 0));
+        }
         let each_masks: Vec<_> = [4, 1, 3, 2, 2, 7, 1, 1].map(masking).into();
         for number in 0..8 {
             self.push(&text(&each_masks), (number, 0), 1, MOST_CELLS);
         }
-        for d in [5, 4] {
+        // The last is too long with its masked time alone.
+        for (e, d, m) in [(1, 5, 1), (1, 4, 1), (4, 5, 2)] {
             let above = task(&[(1, 5), (3, 5)], &[]);
-            self.at_count(&text(&[above, task(&[(1, d)], &[]), masking(1)]), (1, 0));
+            self.at_count(&text(&[above, task(&[(e, d)], &[]), masking(m)]), (1, 0));
         }
         for m in [1, 3, 4] {
             let above = task(&[(3, 10), (1, 4), (4, 10)], &[(1, 2, 4)]);
@@ -142,7 +148,7 @@ impl Vertices {
         }
     }
 
-    /// Texts refused by each row from 1 to 7, whatever else is asked.
+    /// Texts refused by each row from 1 to 7 and by row 13, whatever else is asked.
     pub fn texts(&mut self) {
         let whole = self_edge(2, 5, 5);
         for text in [
@@ -158,6 +164,8 @@ impl Vertices {
             task(&[(1, 5); 2], &[(1, 0, 5), (0, 1, 5)]) + "00\n",
             masked_task(0, &[(1, 5)], &[]) + "00\n",
             masked_task(2, &[(1, 5)], &[]) + "00\n",
+            self_edge(6, 5, 5) + "00\n",
+            vendor_task("05", &[(6, 5, 5)]) + "00\n",
             whole.clone(),
             whole.clone() + "010101\n",
             whole.clone() + "00\n\n",
