@@ -3,7 +3,7 @@ use mathlib.Core.Path.{_≡_, refl, sym, ap, ap₂, subst, _∙_}
 use Prim.Native.Nat.{ℕ, zero, suc, _+_, _≤_, _<_}
 use native.Mathlib.Omega.{arith}
 use mathlib.Core.Bool.{Bool, true, false}
-use mathlib.Core.Logic.{_⊎_, inl, inr}
+use mathlib.Core.Logic.{inl, inr}
 use mathlib.Core.Option.{some}
 use mathlib.Core.List.{List, [], _∷_, _++_, map, List·Memᴰ, List·Memᴰ·head, List·Memᴰ·tail}
 use lib.ListN.{length, getD, take, drop, length-append, length-map}
@@ -26,7 +26,7 @@ use Rattle.kinds.specs.declared.Refusal.the-variants.{WrongFrame, OutOfBounds, 
 use Rattle.kinds.specs.Numbers.{refusalNumber}
 use Rattle.rules.specs.Rules.{taskIn, vertexIn, edgeIn, jobInTime, edgeSpaced, edgePlace, edgeAfter, leastAfter}
 use Rattle.meaning.proofs.Lists.{is-true, is-false}
-use Rattle.rules.proofs.Within.{TaskBounds, task-bounds}
+use Rattle.rules.proofs.Within.{task-bounds}
 use Rattle.checks.specs.declared.Check.{Check}
 use Rattle.checks.specs.declared.Check.the-variants.{Kept, Broken}
 use Rattle.checks.specs.Checks.{brokenBy, andThen, vertexCheck, verticesCheck, maskCheck, edgeCheck, edgesCheck, ownCheck, taskCheck, linesOfTask}
@@ -173,20 +173,15 @@ slip-found n x l =
       lt-leb (x .e) (x .d) (l .over),
     )
 
-not-in : (v e m : ℕ) → (v ≡ 0) ⊎ (mostVertices < v) ⊎ (mostEdges < e) ⊎ (largestM < m) → taskIn v e 0 m ≡ false
-not-in v e m o = is-false (taskIn v e 0 m) (λ t. outside (task-bounds v e 0 m (is-true (taskIn v e 0 m) t)) o)
-  where
-    outside : TaskBounds v e 0 m → (v ≡ 0) ⊎ (mostVertices < v) ⊎ (mostEdges < e) ⊎ (largestM < m) → ⊥
-    outside b (inl q) = omega (arith, b .some)
-    outside b (inr (inl q)) = omega (arith, b .v-in)
-    outside b (inr (inr (inl q))) = omega (arith, b .e-in)
-    outside b (inr (inr (inr q))) = omega (arith, b .m-in)
+not-in : (v e m : ℕ) → ((1 ≤ v) × (v ≤ mostVertices) × (e ≤ mostEdges) × (m ≤ largestM) → ⊥) → taskIn v e 0 m ≡ false
+not-in v e m o =
+    is-false (taskIn v e 0 m) (λ t. let b = task-bounds v e 0 m (is-true (taskIn v e 0 m) t) in o (b .some, b .v-in, b .e-in, b .m-in))
 
 module _ (ts : Table) (i : ℕ) (h : i < length ts) (l : i < mostTasks) (s : AllSound (take i ts)) where
   abbrev own : Task
   own = taskAt ts i
 
-  pub counts-ruled : (length (own .vertices) ≡ 0) ⊎ (mostVertices < length (own .vertices)) ⊎ (mostEdges < length (own .edges)) ⊎ (largestM < own .m)
+  pub counts-ruled : ((1 ≤ length (own .vertices)) × (length (own .vertices) ≤ mostVertices) × (length (own .edges) ≤ mostEdges) × (own .m ≤ largestM) → ⊥)
       → ruled ts ≡ unreadable 3 (lineOf ts i)
   unfolding taskCheck ownCheck
   counts-ruled o = task-ruled ts i (lineOf ts i) OutOfBounds h l s (rw (not-in (length (own .vertices)) (length (own .edges)) (own .m) o))

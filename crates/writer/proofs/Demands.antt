@@ -163,11 +163,13 @@ module _ {t : Table} {before : List ℕ} {r : Written} {after : List ℕ} (w : W
         no-task = λ e. ruled-gets 2 1 (ap ruled (none-held e) ∙ none-ruled);
         ninth = λ h s. line-gets 2 mostTasks (ninth-ruled ts (omega (arith, h, tasks-length t)) s);
         counts = λ i h o. line-gets 3 i (counts-ruled ts i (omega (arith, h .0, tasks-length t)) (h .1) (h .2) o);
-        slip = λ i j h a b c d each long.
-            ruled-gets 13 _ (slip-ruled ts i (omega (arith, h .0, tasks-length t)) (h .1) (h .2) j a b c d each long ∙ ap (unreadable 13) (omega arith));
+        slip = λ i j h b a each long.
+            ruled-gets 13 _
+            (slip-ruled ts i (omega (arith, h .0, tasks-length t)) (h .1) (h .2) j a (b .1) (b .2) (b .3) each long ∙ ap (unreadable 13) (omega arith));
         slip-only = λ n e. only-slips n e (outcome ts room);
-        mask = λ i h a b c d e m.
-            ruled-gets 3 _ (mask-ruled ts i (omega (arith, h .0, tasks-length t)) (h .1) (h .2) a b c d e m ∙ ap (unreadable 3) (omega arith));
+        mask = λ i h b e m.
+            ruled-gets 3 _
+            (mask-ruled ts i (omega (arith, h .0, tasks-length t)) (h .1) (h .2) (b .0) (b .1) (b .2) (b .3) e m ∙ ap (unreadable 3) (omega arith));
         unchanged = refused-as;
         rest = λ n e. rest n (written-as n e);
       }

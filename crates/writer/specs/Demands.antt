@@ -2,7 +2,6 @@
 -- call of `write` and `read` that their promises allow, and for every text's reading, which these promise. `proofs/Demands` proves it.
 use mathlib.Core.Path.{_≡_}
 use Prim.Native.Nat.{ℕ, suc, _+_, _-_, _≤_, _<_}
-use mathlib.Core.Logic.{_⊎_}
 use mathlib.Core.Option.{some}
 use mathlib.Core.List.{List, [], _∷_, map, List·Memᴰ}
 use lib.ListN.{length, take, drop}
@@ -84,6 +83,12 @@ module _ (t : Table) (before : List ℕ) (r : Written) (after : List ℕ) where
   abbrev pub Reached : ℕ → Type 0
   Reached i = (i < t .n) × (i < mostTasks) × AllSound (take i ts)
 
+  -- it has counts and an m that a task may have
+  abbrev pub Allowed : ℕ → Type 0
+  Allowed i =
+      let k = Meant.taskAt ts i in
+      (1 ≤ length (k .vertices)) × (length (k .vertices) ≤ mostVertices) × (length (k .edges) ≤ mostEdges) × (k .m ≤ largestM)
+
   pub record WriteCall : Type 0 where
     -- a table that breaks no rule is written, and no other; "then 10 with the bytes needed"
     pub fits : SoundTable ts → length (textOf ts) ≤ length before → r ≡ Bytes (length (textOf ts))
@@ -101,20 +106,16 @@ module _ (t : Table) (before : List ℕ) (r : Written) (after : List ℕ) where
     pub no-task : t .n ≡ 0 → Gets 2 1
     pub ninth : mostTasks < t .n → AllSound (take mostTasks ts) → Gets 2 (lineOf mostTasks)
     -- counts that no task may have and m above 1,000 are 3 at the task's line, also where a byte can't hold them
-    pub counts : (i : ℕ) → Reached i → let k = Meant.taskAt ts i in
-        (length (k .vertices) ≡ 0) ⊎ (mostVertices < length (k .vertices)) ⊎ (mostEdges < length (k .edges)) ⊎ (largestM < k .m) → Gets 3 (lineOf i)
+    pub counts : (i : ℕ) → Reached i → (Allowed i → ⊥) → Gets 3 (lineOf i)
     -- "Refuse it, [..] written: number 13, at the vertex's line, when e exceeds d, after 3, before 4 and before wish 3's test of m": vertex j of task i, if
     -- no line before its own breaks a rule
-    pub slip : (i j : ℕ) → Reached i → let k = Meant.taskAt ts i in let x = Meant.vertexAt k j in
-        j < length (k .vertices) → length (k .vertices) ≤ mostVertices → length (k .edges) ≤ mostEdges → k .m ≤ largestM
+    pub slip : (i j : ℕ) → Reached i → Allowed i → let k = Meant.taskAt ts i in let x = Meant.vertexAt k j in j < length (k .vertices)
         → ((y : Meant.Vertex) → List·Memᴰ y (take j (k .vertices)) → SoundVertex y) → TooLong (x .e) (x .d) → Gets 13 (lineOf i + suc j)
     -- and no other frame gets it
     pub slip-only : (n : ℕ) → Gets 13 n → (f : List ℕ) × (frameIn some (framesOf ts) (n - 1) ≡ some f) × Slip f
     -- m above the largest e is 3 at the last vertex's line, after its own checks
-    pub mask : (i : ℕ) → Reached i → let k = Meant.taskAt ts i in
-        1 ≤ length (k .vertices) → length (k .vertices) ≤ mostVertices → length (k .edges) ≤ mostEdges → k .m ≤ largestM
-        → ((x : Meant.Vertex) → List·Memᴰ x (k .vertices) → SoundVertex x) → Meant.largestEIn (k .vertices) < k .m
-        → Gets 3 (lineOf i + length (k .vertices))
+    pub mask : (i : ℕ) → Reached i → Allowed i → let k = Meant.taskAt ts i in ((x : Meant.Vertex) → List·Memᴰ x (k .vertices) → SoundVertex x)
+        → Meant.largestEIn (k .vertices) < k .m → Gets 3 (lineOf i + length (k .vertices))
     -- "A refusal changes nothing; else the rest of the area is unchanged."
     pub unchanged : (at : RefusedAt) → r ≡ Refused at → after ≡ before
     pub rest : (n : ℕ) → r ≡ Bytes n → (length after ≡ length before) × (drop n after ≡ drop n before)
