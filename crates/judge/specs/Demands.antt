@@ -165,6 +165,7 @@ pub record MaskedLengths : Type 0 where
 -- ---- a job longer than its own deadline
 
 -- "Masked time isn't counted here; a vertex whose e + B exceeds d is still judged, and misses", unless a row of 8 to 11 refuses it or the budget is too small.
+-- That it is read and written stands on the writer's page (`AsPlainTasks`, `fits`), whose `SoundTable` knows no B.
 -- Since no e of a readable table exceeds its d, no vertex misses that has no task above it and no masked time below.
 pub record OwnDeadline : Type 0 where
   pub masked-misses : (x : Call) (ts : Table) → Means x ts → refusedBy x ts ≡ none → groups x ts ≤ x .b → deadline ts (x .i) (x .v) < ownE ts (x .i) (x .v)

@@ -1,12 +1,12 @@
 -- A job longer than its own deadline: no text with such a line is read, 13 refuses such lines alone, and of the other rows only 2 and 7 can name one.
-use mathlib.Core.Path.{_≡_, refl, sym, subst, _∙_}
-use Prim.Native.Nat.{ℕ, zero, suc, _-_, _<_}
+use mathlib.Core.Path.{_≡_, refl, sym, ap, ap₂, subst, _∙_}
+use Prim.Native.Nat.{ℕ, zero, suc, _+_, _-_, _<_}
 use native.Mathlib.Omega.{arith}
 use mathlib.Core.Bool.{true, false}
 use mathlib.Core.Logic.{_⊎_, inl, inr}
 use mathlib.Core.Option.{Option, none, some}
 use mathlib.Core.List.{List, [], _∷_}
-use lib.ListN.{getD}
+use lib.ListN.{getD, take}
 use lib.Dec.{T}
 use Rattle.meaning.specs.Bounds.{largestE, largestD, largestP}
 use Rattle.meaning.specs.Table.{Table, vertex}
@@ -14,13 +14,13 @@ use Rattle.meaning.specs.Text.{linesOf, frameOf, isFrame, word, Begun, n
 use Rattle.meaning.specs.Text.{ringTo, gearTo, vendorFrame, linkFrame, framed, stepAt, Reading, readable, unreadable, atEnd, framesFrom, read}
 use Rattle.meaning.specs.Writing.{framesOf, ruled}
 use Rattle.meaning.specs.Sound.{SoundVertex}
-use Rattle.meaning.specs.Slips.{TooLong, IsVertex, Slip, frameIn, SlipRefused}
+use Rattle.meaning.specs.Slips.{TooLong, IsVertex, Slip, frameIn, frameOn, SlipRefused}
 use Rattle.meaning.proofs.Lists.{is-true}
 use Rattle.meaning.proofs.FrameSteps.{jobIn, linkIn, task-each, vertex-each, edge-each, vendor-each, link-each}
 use Rattle.meaning.proofs.FrameSteps.{vertex-wanted, edge-wanted, task-wanted}
 use Rattle.meaning.proofs.FramesKeep.{within-true}
-use Rattle.meaning.proofs.Readable.{framesStep, step-frames}
-use Rattle.meaning.proofs.FaultyLine.{From, from-line}
+use Rattle.meaning.proofs.Readable.{framesStep, step-frames, read-refused}
+use Rattle.meaning.proofs.FaultyLine.{From, from-line, row-is, line-is}
 use Rattle.meaning.proofs.FrameLines.{apart}
 use Rattle.meaning.proofs.FramesBack.{kind-is, differ}
 use Rattle.meaning.proofs.WrongFrame.{two-first}
@@ -61,6 +61,10 @@ module _ (f : List ℕ) where
   abbrev Vertex's : Type 0
   Vertex's = T (isFrame 2 5 f) ⊎ (T (isFrame 6 7 f) × T (within 1 largestP (word f 5)))
 
+  vertex's : Vertex's → IsVertex f
+  vertex's (inl x) = inl x
+  vertex's (inr x) = inr (x .0)
+
   slipped : Vertex's → TooLong e d → Fair f (wrong 13)
   slipped frame x = (λ z. record { frame = frame; job = x }, λ z. inl refl)
 
@@ -86,10 +90,6 @@ module _ (f : List ℕ) where
 
     no-slip : Slip f → ⊥
     no-slip s = clean (vertex's (s .frame)) (s .job .over)
-      where
-        vertex's : Vertex's → IsVertex f
-        vertex's (inl x) = inl x
-        vertex's (inr x) = inr (x .0)
 
     by-three : Fair f (wrong 3)
     by-three = by-other f 3 no-slip (λ z. omega arith)
@@ -169,11 +169,63 @@ module _ {X : Type 0} (frame : X → Option (List ℕ)) where
       go ih none q = rw (q, o) (λ e. absurd (omega arith), λ f p z. apart (sym q ∙ p))
       go ih (some f) q = rw q (step ih f q (stepAt s (some f)) (framed-fair f s (s .wantV) (s .wantE)))
 
+  -- behind lines that lack only an end
+  at-line-from : (s : Begun) (b j : ℕ) (ls : List X) (f : List ℕ) → frameIn frame ls j ≡ some f → Slip f
+      → framesFrom frame s b (take j ls) ≡ unreadable 6 (b + j)
+      → (framesFrom frame s b ls ≡ unreadable 13 (b + j)) ⊎ (framesFrom frame s b ls ≡ unreadable 2 (b + j))
+  at-line-from s b j [] f q z e = apart q
+  at-line-from s b zero (l ∷ ls) f q z e =
+      subst Refused (sym (step-frames frame s b l ls)) (rw q (go (stepAt s (some f)) (framed-fair f s (s .wantV) (s .wantE))))
+    where
+      Refused : Reading → Type 0
+      Refused r = (r ≡ unreadable 13 (b + 0)) ⊎ (r ≡ unreadable 2 (b + 0))
+
+      here : b ≡ b + 0
+      here = omega arith
+
+      by : {k : ℕ} → (k ≡ 13) ⊎ (k ≡ 2) → Refused (unreadable k b)
+      by (inl i) = inl (ap₂ unreadable i here)
+      by (inr i) = inr (ap₂ unreadable i here)
+
+      go : (r : Step) → Fair f r → Refused (framesStep frame r b ls)
+      go (on y) h = absurd (h (vertex's f (z .frame)) (z .job .over))
+      go (over ts) h = absurd (h (vertex's f (z .frame)) (z .job .over))
+      go (wrong k) h = by (h .1 z)
+  at-line-from s b (suc j) (l ∷ ls) f q z e =
+      subst Refused (sym (step-frames frame s b l ls))
+      (go (λ y h. at-line-from y (suc b) j ls f q z h) (stepAt s (frame l)) (sym (step-frames frame s b l (take j ls)) ∙ e ∙ ap (unreadable 6) more))
+    where
+      more : b + suc j ≡ suc b + j
+      more = omega arith
+
+      Refused : Reading → Type 0
+      Refused r = (r ≡ unreadable 13 (b + suc j)) ⊎ (r ≡ unreadable 2 (b + suc j))
+
+      ended : (ts : Table) (xs : List X) → atEnd ts (suc b) xs ≡ unreadable 6 (suc b + j) → ⊥
+      ended ts [] h = let y : _≡_ {A = ℕ} 0 1 = cc in omega arith
+      ended ts (x ∷ xs) h = omega (arith, row-is h)
+
+      go : ((y : Begun) → framesFrom frame y (suc b) (take j ls) ≡ unreadable 6 (suc b + j)
+          → (framesFrom frame y (suc b) ls ≡ unreadable 13 (suc b + j)) ⊎ (framesFrom frame y (suc b) ls ≡ unreadable 2 (suc b + j)))
+          → (r : Step) → framesStep frame r b (take j ls) ≡ unreadable 6 (suc b + j) → Refused (framesStep frame r b ls)
+      go ih (on y) h = rw more (ih y h)
+      go ih (over ts) h = absurd (ended ts (take j ls) h)
+      go ih (wrong k) h = absurd (omega (arith, line-is h))
+
 -- ---- a whole text, and the frames of a table
 
 says-text : (text : List ℕ) → Says frameOf 1 (linesOf text) (read text)
 unfolding read
 says-text text = says-from frameOf nothing 1 (linesOf text)
+
+at-line : (text before f : List ℕ) (n : ℕ) → frameOn text n ≡ some f → Slip f → linesOf before ≡ take (n - 1) (linesOf text)
+    → read before ≡ unreadable 6 n → (read text ≡ unreadable 13 n) ⊎ (read text ≡ unreadable 2 n)
+unfolding read
+at-line text before f n q s t e =
+    let some = read-refused before 6 n e .1 in
+    let line : 1 + (n - 1) ≡ n = omega arith in
+    subst (λ (m : ℕ). (read text ≡ unreadable 13 m) ⊎ (read text ≡ unreadable 2 m)) line
+    (at-line-from frameOf nothing 1 (n - 1) (linesOf text) f q s (ap (framesFrom frameOf nothing 1) (sym t) ∙ e ∙ ap (unreadable 6) (sym line)))
 
 pub slip-refused : SlipRefused
 slip-refused =
@@ -181,6 +233,7 @@ slip-refused =
       never-read = λ text f n ts q v h e. subst (Says frameOf 1 (linesOf text)) e (says-text text) (n - 1) f q v h;
       only-slips = λ text n e. subst (Says frameOf 1 (linesOf text)) e (says-text text) .0 refl;
       slip-number = λ text f k n q s e. subst (Says frameOf 1 (linesOf text)) e (says-text text) .1 f q s;
+      at-line = at-line;
       two-first = two-first;
     }
 

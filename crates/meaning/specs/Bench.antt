@@ -336,6 +336,7 @@ examples =
     -- "Masked time isn't counted here": 2 + 1 ticks exceed the deadline of 2, and the job misses with nothing above it. Its own task's masked time doesn't count
     ∷ (deskOf (bytes "010100\n0200020002\n0401000001\n0200010009\n") gives (bytes "1000000100000001\n1001000000000001\n1f01010000\n"))
     ∷ (lateWith deskBudget (lone 2 2 ∷ masking 1 1 9 ∷ []) 0 gives (1 ∷ 1 ∷ 0 ∷ []))
+    ∷ (writtenInto 0 (lone 2 2 ∷ masking 1 1 9 ∷ []) gives (10 ∷ 43 ∷ []))
     ∷ (deskOf (bytes "0401000002\n0200020002\n") gives (bytes "1000000000000001\n1f01000000\n"))
     ∷ []
 

@@ -83,7 +83,7 @@ module _ (t : Table) (before : List ℕ) (r : Written) (after : List ℕ) where
   abbrev pub Reached : ℕ → Type 0
   Reached i = (i < t .n) × (i < mostTasks) × AllSound (take i ts)
 
-  -- it has counts and an m that a task may have
+  -- its counts and its m are within their bounds
   abbrev pub Allowed : ℕ → Type 0
   Allowed i =
       let k = Meant.taskAt ts i in
