@@ -21,16 +21,20 @@
 #include <stddef.h>
 #include <stdint.h>
 
-/* The bounds: how many tasks a table has, vertices and edges a task, the largest d, how many complete paths a higher task may have, and the longest input
- * of the desk program in bytes. */
+/* The bounds: how many tasks a table has, vertices and edges a task, the largest e, d, p and m, of which the least is 1 (0 for no m), how many complete
+ * paths a higher task may have, and the longest input of the desk program in bytes. */
 #define TECTAVIRIO_MOST_TASKS 8
 #define TECTAVIRIO_MOST_VERTICES 12
 #define TECTAVIRIO_MOST_EDGES 32
-#define TECTAVIRIO_LARGEST_D 200
+#define TECTAVIRIO_LARGEST_E 1000
+#define TECTAVIRIO_LARGEST_D 1000
+#define TECTAVIRIO_LARGEST_P 60000
+#define TECTAVIRIO_LARGEST_M 1000
 #define TECTAVIRIO_MOST_PATHS 64
 #define TECTAVIRIO_LONGEST_INPUT 8191
 
-/* What follows from them: as many higher tasks as a vertex can have, and as many work and witness cells as any vertex needs. */
+/* What follows from them: as many higher tasks as a vertex can have, and as many work and witness cells as any vertex needs, 889,000 and 7,007. Most tables
+ * need far fewer work cells; a vertex for which there are too few is refused, by 10, with the number that it needs. */
 #define TECTAVIRIO_MOST_HIGHER (TECTAVIRIO_MOST_TASKS - 1)
 #define TECTAVIRIO_MOST_WORK (TECTAVIRIO_LARGEST_D * TECTAVIRIO_MOST_HIGHER * (2 * TECTAVIRIO_MOST_PATHS - 1))
 #define TECTAVIRIO_MOST_WITNESS (TECTAVIRIO_MOST_HIGHER * (1 + TECTAVIRIO_LARGEST_D))
@@ -44,8 +48,9 @@
 #define TECTAVIRIO_LONGEST_TEXT (TECTAVIRIO_MOST_TASKS * TECTAVIRIO_LONGEST_TASK + TECTAVIRIO_LINE(1))
 #define TECTAVIRIO_MOST_CELLS (TECTAVIRIO_MOST_TASKS * (3 + 2 * TECTAVIRIO_MOST_VERTICES + 3 * TECTAVIRIO_MOST_EDGES))
 
-/* Room for any output of the desk program: for each vertex its verdict's line and one for the longest path of each higher task, then the four counts. */
-#define TECTAVIRIO_LONGEST_VERTEX (TECTAVIRIO_LINE(8) + TECTAVIRIO_MOST_HIGHER * TECTAVIRIO_LINE(3 + TECTAVIRIO_LARGEST_D))
+/* Room for any output of the desk program, 1,351,691 bytes: as if each vertex had all the other tasks above it, a line for its verdict and one for the
+ * longest path of each of them, then the four counts. */
+#define TECTAVIRIO_LONGEST_VERTEX (TECTAVIRIO_LINE(8) + TECTAVIRIO_MOST_HIGHER * TECTAVIRIO_LINE(4 + TECTAVIRIO_LARGEST_D))
 #define TECTAVIRIO_LONGEST_OUTPUT (TECTAVIRIO_MOST_TASKS * TECTAVIRIO_MOST_VERTICES * TECTAVIRIO_LONGEST_VERTEX + TECTAVIRIO_LINE(5))
 
 #ifdef __cplusplus
@@ -134,8 +139,18 @@ static inline unsigned tectavirio_judged_missing(uint64_t judged) { return (unsi
 static inline unsigned tectavirio_judged_unfinishing(uint64_t judged) { return (unsigned)(judged / 256 % 256); }
 static inline unsigned tectavirio_judged_refusing(uint64_t judged) { return (unsigned)(judged % 256); }
 
-/* Writes the desk program's output for an input, its frames as lines of hexadecimal, from the front of `out`, and gives its length in bytes. All else in
- * `out` is unchanged. An `out` shorter than TECTAVIRIO_LONGEST_OUTPUT is left as it is, and the length is 0. */
+/* Writes the desk program's output for an input from the front of `out`, and gives its length in bytes. All else in `out` is unchanged. The output is frames
+ * as lines of hexadecimal, in lower case:
+ *
+ *   10 task vertex verdict count   a vertex; the count, or the refusal's number, in 4 bytes
+ *   12 task length vertices        after a miss, for each task above it; the length in 2 bytes, one byte a vertex. Before d went up to 1,000 this was 11,
+ *                                  with one byte for the length
+ *   1f four counts                 the last line of a readable table
+ *   1e number line                 a refused text or input; the line in 2 bytes
+ *
+ * The length is 0, and nothing is written, exactly if `out` has fewer bytes than these lines can take: 9 for a refused text or input; for a table 11 and,
+ * for each vertex, 17 + h x (9 + 2d), h being the number of tasks above it and d its own deadline, even where this output is shorter. R1 needs room for 127
+ * and gets 86. An `out` of TECTAVIRIO_LONGEST_OUTPUT bytes is never too short. */
 size_t tectavirio_desk_output(const uint8_t *text, size_t text_bytes, uint8_t *out, size_t out_bytes);
 
 /* Writes a table that is built in memory as the text that reads as this table, in frames 00 to 04, from the front of `out`. The table is one list of 16-bit
@@ -159,10 +174,10 @@ size_t tectavirio_desk_output(const uint8_t *text, size_t text_bytes, uint8_t *o
  *   refusal   returned with it             why
  *   2         line 1, the ninth's line     there is no task; there are more than eight
  *   3         the task's line              0 vertices or more than 12, more than 32 edges, or m above 1,000
- *   3         the vertex's line            e or d is outside its bounds
+ *   3         the vertex's line            e or d is outside its bounds, 1 to 1,000
  *   13        the vertex's line            e is above d
  *   3         the last vertex's line       m is above the task's largest e
- *   3         the edge's line              the task hasn't the vertex from or to, or p is outside its bounds
+ *   3         the edge's line              the task hasn't the vertex from or to, or p is outside 1 to 60,000
  *   4         the edge's line              d of the vertex from is above p
  *   5         the edge's line              the edge doesn't come after the one before it in its task
  *   10        the bytes needed             no rule is broken, and `out` is shorter than the text

@@ -3,7 +3,7 @@
 #   mask TIME NOTES...           for so long it masks interrupts
 #   job WORK DEADLINE NOTES...   its next vertex
 #   next FROM TO SEPARATION      its next edge
-BEGIN { tick = 125; largest_d = 200; largest_p = 1000 }
+BEGIN { tick = 125; largest_d = 1000; largest_p = 60000 }
 function down(time, most) { return time < most * tick ? int(time / tick) : most }
 function up(time) { return int(time / tick) + (time % tick > 0) }
 function put_task() {

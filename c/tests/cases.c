@@ -127,13 +127,13 @@ static void judge_whole(const struct one_case *c) {
     puts("");
 }
 
-/* The output, preceded by its length in 4 bytes, high byte first. No area, and one that is a byte too short, are left alone. */
+/* The output, preceded by its length in 4 bytes, high byte first. No area, and one that is a byte shorter than the output, are left alone. */
 static void write_output(const struct one_case *c) {
     static uint8_t out[TECTAVIRIO_LONGEST_OUTPUT];
-    if (tectavirio_desk_output(c->text, c->length, NULL, 0) + tectavirio_desk_output(c->text, c->length, out, sizeof out - 1) != 0) {
+    size_t written = tectavirio_desk_output(c->text, c->length, out, sizeof out);
+    if (tectavirio_desk_output(c->text, c->length, NULL, 0) + tectavirio_desk_output(c->text, c->length, out, written - 1) != 0) {
         puts("an output where there is no room");
     }
-    size_t written = tectavirio_desk_output(c->text, c->length, out, sizeof out);
     for (int shift = 24; shift >= 0; shift -= 8) {
         putchar((int)(written >> shift & 0xff));
     }

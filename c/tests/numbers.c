@@ -129,6 +129,41 @@ static void judge_latest(void) {
     expect_latest((struct asked){r5, r5_bytes, 1, 0, 2, WORK_CELLS, WITNESS_CELLS}, (struct told){TECTAVIRIO_UNFINISHED, 2, 0, 0}, 15, NULL);
 }
 
+/* Slower cradles: above a vertex of e 1, d 1,000 seven tasks that release a job of e 1 at every tick, each with one path of 1,000 vertices. One group is
+ * examined, 1 + 7 ticks of work at tick 1 and 8 more at each later one; 7 x 1,000 work cells are needed, and 7 x 1,001 witness cells, which the paths fill.
+ * Before the counts' line the desk writes a line for each of them: 12, the task, 1,000 in two bytes, 03e8, and the vertices. */
+static void judge_slow(void) {
+    static uint32_t cells[7000];
+    static uint16_t paths[TECTAVIRIO_MOST_WITNESS];
+    static uint8_t out[TECTAVIRIO_LONGEST_OUTPUT];
+    static char text[7 * 29 + 7 + 11 + 3 + 1];
+    size_t length = 0;
+    for (int task = 0; task < 7; task++) {
+        length += (size_t)sprintf(text + length, "010101\n0200010001\n0300000001\n");
+    }
+    length += (size_t)sprintf(text + length, "010100\n02000103e8\n00\n");
+    expect("work cells for any vertex", TECTAVIRIO_MOST_WORK, 889000);
+    expect("witness cells for any vertex", TECTAVIRIO_MOST_WITNESS, 7007);
+    expect("bytes for any output", TECTAVIRIO_LONGEST_OUTPUT, 1351691);
+    struct told t = {0, 0, 0, 0};
+    t.verdict = tectavirio_judge((const uint8_t *)text, length, 7, 0, 1, cells, 7000, paths, 7006, &t.value, &t.place);
+    expect_told(t, (struct told){TECTAVIRIO_REFUSED, TECTAVIRIO_WITNESS_TOO_SHORT, 7007, 0});
+    t.verdict = tectavirio_judge((const uint8_t *)text, length, 7, 0, 1, cells, 7000, paths, 7007, &t.value, &t.place);
+    expect_told(t, (struct told){TECTAVIRIO_MISSES, 1, 7007, 0});
+    for (size_t i = 0; i < 7007; i++) {
+        expect("a cell of a long path", paths[i], i % 1001 == 0 ? 1000 : 0);
+    }
+    size_t written = tectavirio_desk_output((const uint8_t *)text, length, out, sizeof out), line = TECTAVIRIO_LINE(4 + 1000);
+    const uint8_t *first = out + written - TECTAVIRIO_LINE(5) - 7 * line;
+    for (int task = 0; task < 7; task++) {
+        static char head[8 + 1];
+        sprintf(head, "12%02x03e8", (unsigned)task);
+        for (size_t i = 0; i < 8; i++) {
+            expect("a digit of a long path's length", first[(size_t)task * line + i], (uint8_t)head[i]);
+        }
+    }
+}
+
 #define VERTEX "0200010001\n"
 
 /* Four tasks with 1, 2, 3 and 4 vertices, e 1, d 1, no edges: as many complete paths of one vertex each. With budget 1 and 8 work cells the first task's
@@ -175,6 +210,7 @@ int main(void) {
     judge_short();
     judge_crowded();
     judge_latest();
+    judge_slow();
     take_counts();
     take_refusals();
     return wrong;

@@ -34,6 +34,19 @@ static void judge_r1(const char *r1, size_t length) {
     expect("those refused", tectavirio_judged_refusing(judged), 0);
 }
 
+/* The desk's output. Its longest has 11 bytes for the counts, 17 for each verdict, and for each task above a vertex the line of a path of d vertices, 9 + 2d:
+ * 11 + 17 + (17 + 23) + (17 + 2 x 21) = 127. In less nothing is written. */
+static void write_r1(const char *r1, size_t length) {
+    static const char lines[] = "1000000000000001\n1001000000000001\n1002000100000001\n120000020000\n1201000100\n1f02010000\n";
+    uint8_t out[127] = {0};
+    expect("bytes without room", tectavirio_desk_output((const uint8_t *)r1, length, out, 126), 0);
+    expect("a byte without room", out[0], 0);
+    expect("the output's bytes", tectavirio_desk_output((const uint8_t *)r1, length, out, 127), sizeof lines - 1);
+    for (size_t i = 0; i < sizeof lines; i++) {
+        expect("a byte of the output, or the one behind it", out[i], (uint8_t)lines[i]);
+    }
+}
+
 static void refuse(const char *text, size_t length, unsigned refusal, unsigned line) {
     uint32_t checked = tectavirio_text_check((const uint8_t *)text, length);
     expect("a line's refusal", tectavirio_checked_refusal(checked), refusal);
@@ -74,6 +87,8 @@ static void judge_nothing(void) {
 int main(void) {
     judge_r1(R1, sizeof R1 - 1);
     judge_r1(VENDORS_R1, sizeof VENDORS_R1 - 1);
+    write_r1(R1, sizeof R1 - 1);
+    write_r1(VENDORS_R1, sizeof VENDORS_R1 - 1);
     refuse_vendors_lines();
     refuse_slips();
     judge_nothing();

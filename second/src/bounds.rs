@@ -1,4 +1,4 @@
-//! Every number of document 01 and of wishes 3 and 5, by a name in their words.
+//! Every number of document 01 and of wishes 3, 5 and 7, by a name in their words.
 
 use std::ops::RangeInclusive;
 
@@ -15,9 +15,9 @@ pub const M: RangeInclusive<u16> = 1..=1_000;
 /// A vertex's execution time e, in ticks.
 pub const E: RangeInclusive<u16> = 1..=1_000;
 /// A vertex's deadline d, in ticks.
-pub const D: RangeInclusive<u16> = 1..=200;
+pub const D: RangeInclusive<u16> = 1..=1_000;
 /// An edge's separation p, in ticks.
-pub const P: RangeInclusive<u16> = 1..=1_000;
+pub const P: RangeInclusive<u16> = 1..=60_000;
 /// The most complete paths that a higher task may have.
 pub const PATHS: usize = 64;
 /// The most work cells that a vertex can need.
@@ -45,14 +45,14 @@ pub const INPUT_BYTES: usize = 8_191;
 /// The work cells that the desk program lends.
 pub const WORK_CELLS: usize = 8_192;
 /// The witness cells that the desk program lends: enough for every vertex.
-pub const WITNESS_CELLS: usize = 1_407;
+pub const WITNESS_CELLS: usize = 7_007;
 /// The budget of the desk program.
 pub const BUDGET: u32 = 100_000;
 
 /// The first byte of an output frame for one vertex.
 pub const VERDICT_FRAME: u8 = 0x10;
 /// The first byte of an output frame for one path of a witness.
-pub const PATH_FRAME: u8 = 0x11;
+pub const PATH_FRAME: u8 = 0x12;
 /// The first byte of the output frame for a refused text or input.
 pub const REFUSED_FRAME: u8 = 0x1e;
 /// The first byte of the output frame for the four counts.

@@ -1,7 +1,7 @@
 //! What is asked of a text, with all that is lent for it, and what is answered.
 
 use crate::area::written;
-use crate::bounds::{BUDGET, WITNESS_CELLS};
+use crate::bounds::BUDGET;
 use crate::desk::{self, counts, write_bytes, write_number};
 use crate::judge::{judge, Counts, Verdict};
 use crate::latest::latest;
@@ -110,8 +110,8 @@ impl Case {
         bytes
     }
 
-    /// The answer, by the mode. The work area, of enough cells for any vertex, is for what is asked unmarked.
-    pub fn answer(&self, work: &mut [u32]) -> Vec<u8> {
+    /// The answer, by the mode. The areas, of enough cells for any vertex, are for what is asked unmarked.
+    pub fn answer(&self, work: &mut [u32], witness: &mut [u16]) -> Vec<u8> {
         let answer = match self.mode {
             CHECK => desk::check(&self.text),
             LIST => list(&self.text),
@@ -120,7 +120,7 @@ impl Case {
             FINISH => self.finished(),
             TABLE => self.tabled(),
             UNMARKED => counts(&self.text, BUDGET, work) + "\n",
-            FINISHES => finishes(&self.text, work) + "\n",
+            FINISHES => finishes(&self.text, work, witness) + "\n",
             WORDS => words(&self.text) + "\n",
             WHY => words_with_why(&self.text) + "\n",
             RECORD => return written(&Record::laid_out(&self.text), self.work, 1),
@@ -193,7 +193,7 @@ impl Case {
 }
 
 /// Asks how late each vertex's latest is: the four counts of these verdicts as the desk's last frame has them, and the sum of the worst finishes (4 bytes); or the frame of a refused text.
-fn finishes(text: &[u8], work: &mut [u32]) -> String {
+fn finishes(text: &[u8], work: &mut [u32], witness: &mut [u16]) -> String {
     let mut line = String::new();
     let table = match text::read(text) {
         Ok(table) => table,
@@ -202,11 +202,10 @@ fn finishes(text: &[u8], work: &mut [u32]) -> String {
             return line;
         }
     };
-    let mut witness = [0; WITNESS_CELLS];
     let mut counts = Counts::default();
     let mut sum = Ticks(0);
     for (task, vertex) in table.numbers() {
-        let lateness = latest(text, task, vertex, BUDGET, work, &mut witness);
+        let lateness = latest(text, task, vertex, BUDGET, work, witness);
         counts.add(&lateness.verdict());
         sum = sum + lateness.finish();
     }

@@ -94,11 +94,13 @@ fn write_verdict(lines: &mut String, task: TaskNo, vertex: VertexNo, verdict: &V
 fn write_paths(lines: &mut String, task: TaskNo, witness: &[u16]) {
     let mut front = witness;
     for higher in 0..task.0 {
-        // The frame goes on like the area: the path's length and vertices.
-        let (path, rest) = front.split_at(1 + usize::from(front[0]));
+        // The frame goes on like the area: the path's length, in 2 bytes, and its vertices, in 1 byte each.
+        let length = front[0];
+        let (path, rest) = front[1..].split_at(usize::from(length));
         write_bytes(lines, &[PATH_FRAME, byte(higher)]);
-        for &cell in path {
-            write_bytes(lines, &[byte(cell)]);
+        write_bytes(lines, &length.to_be_bytes());
+        for &vertex in path {
+            write_bytes(lines, &[byte(vertex)]);
         }
         lines.push('\n');
         front = rest;

@@ -1,4 +1,4 @@
-//! A second deadline judge, written from document 01 and wishes 1 and 3 to 6 of document 02 alone.
+//! A second deadline judge, written from document 01 and wishes 1 and 3 to 7 of document 02 alone.
 //!
 //! It is compared with the proved program and shares nothing with it.
 

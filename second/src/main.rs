@@ -2,7 +2,7 @@
 
 #![forbid(unsafe_code)]
 
-use second::bounds::{INPUT_BYTES, MOST_WORK_CELLS};
+use second::bounds::{INPUT_BYTES, MOST_WORK_CELLS, WITNESS_CELLS};
 use second::desk;
 use second::sequence::next_case;
 use std::env;
@@ -42,13 +42,14 @@ fn one() -> io::Result<()> {
     target.flush()
 }
 
-/// Answers each case of a sequence; one work area serves all tables that are judged unmarked.
+/// Answers each case of a sequence; one work area and one witness area serve all tables that are judged unmarked.
 fn cases() -> io::Result<()> {
     let mut source = BufReader::new(io::stdin().lock());
     let mut target = BufWriter::new(io::stdout().lock());
     let mut work = vec![0; MOST_WORK_CELLS];
+    let mut witness = vec![0; WITNESS_CELLS];
     while let Some(case) = next_case(&mut source)? {
-        target.write_all(&case.answer(&mut work))?;
+        target.write_all(&case.answer(&mut work, &mut witness))?;
     }
     target.flush()
 }

@@ -225,19 +225,36 @@ fn release_line(number: usize, task: &Task, path: &[u16]) -> String {
     format!("    task {number}: {}\n", releases(task, path))
 }
 
-/// Each vertex of a path with its tick: the first at 0, the next ones by the separations.
+/// The vertices of a path with their ticks: the first at 0, the next ones by the separations.
 fn releases(task: &Task, path: &[u16]) -> String {
     let mut tick = Ticks(0);
-    let mut released = vec![format!("vertex {} at tick 0", path[0])];
+    let mut released = vec![(path[0], tick)];
     for pair in path.windows(2) {
         let edges = &task.vertices[usize::from(pair[0])].edges;
         // A path goes by edges, and at most one leads to each vertex.
         for edge in edges.iter().filter(|edge| edge.to.0 == pair[1]) {
             tick = tick + edge.p;
         }
-        released.push(format!("vertex {} at tick {}", pair[1], tick.0));
+        released.push((pair[1], tick));
     }
-    released.join(", ")
+    let runs = released.chunk_by(|one, next| one.0 == next.0);
+    runs.map(run_words).collect::<Vec<_>>().join(", ")
+}
+
+/// A run of neighbouring releases of one vertex, each with its tick: four or more are said once, fewer one by one.
+fn run_words(run: &[(u16, Ticks)]) -> String {
+    let one = |&(vertex, tick): &(u16, Ticks)| format!("vertex {vertex} at tick {}", tick.0);
+    match run {
+        [first, (_, second), _, .., (_, last)] => {
+            // All but the first come by the vertex's edge to itself, and so at its separation.
+            let every = match second.0 - first.1 .0 {
+                1 => "tick".into(),
+                p => ticks(p),
+            };
+            format!("{} and every {every} up to tick {}", one(first), last.0)
+        }
+        few => few.iter().map(one).collect::<Vec<_>>().join(", "),
+    }
 }
 
 /// The four counts, and the sentence that they decide.

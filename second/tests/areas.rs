@@ -119,18 +119,18 @@ fn r1s_witness_is_one_path_after_the_other() {
 }
 
 #[test]
-fn the_largest_witness_fills_1_407_cells() {
+fn the_largest_witness_fills_7_007_cells() {
     let mut tasks = vec![self_edge(1, 1, 1); 7];
-    tasks.push(task(&[(1, 200)], &[]));
-    let path = [&[200][..], &[0; 200]].concat();
-    let found = judge_in(&tasks, (7, 0), 1, (1_400, 1_407));
+    tasks.push(task(&[(1, 1_000)], &[]));
+    let path = [&[1_000][..], &[0; 1_000]].concat();
+    let found = judge_in(&tasks, (7, 0), 1, (7_000, 7_007));
     let misses = Verdict::Misses {
         count: 1,
-        cells: 1_407,
+        cells: 7_007,
     };
-    assert_eq!(found, (misses, zeroed(1_400, 1_400), path.repeat(7)));
-    let short = judge_in(&tasks, (7, 0), 1, (1_400, 1_406));
-    assert_eq!(refusal(short.0), Some((11, 1_407)));
+    assert_eq!(found, (misses, zeroed(7_000, 7_000), path.repeat(7)));
+    let short = judge_in(&tasks, (7, 0), 1, (7_000, 7_006));
+    assert_eq!(refusal(short.0), Some((11, 7_007)));
 }
 
 #[test]

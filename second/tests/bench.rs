@@ -1,4 +1,4 @@
-//! The bench examples R1 to R11 of document 01, R4 as wish 6 has it, R2 with a masked length, and a few tables worked out by hand.
+//! The bench examples R1 to R11 of document 01, R4 as wish 6 and the path frames as wish 7 has them, R2 with a masked length, and a few tables worked out by hand.
 
 use crate::common::{self, *};
 use second::desk;
@@ -28,7 +28,7 @@ fn r1_whole_input_to_whole_output() {
     let input = "010101\n0200020005\n0300000005\n010101\n0200020007\n0300000007\n\
                  010101\n0200020006\n0300000007\n00\n";
     let output = "1000000000000001\n1001000000000001\n1002000100000001\n\
-                  1100020000\n11010100\n1f02010000\n";
+                  120000020000\n1201000100\n1f02010000\n";
     assert_eq!(text(&r1(2)), input);
     assert_eq!(desk::output(input.as_bytes()), output);
 }
@@ -51,7 +51,7 @@ fn r2_misses_above_a_masked_length() {
     assert_eq!(judged(&above(masking()), (2, 0), 100, PLENTY), misses);
     // The others meet: 2 + 1, 2 + 1 + 2, and the last, which nothing holds up, at tick 13: 1 + 6 + 4 + 2.
     let output = "1000000000000001\n1001000000000001\n1002000100000001\n\
-                  1100020000\n11010100\n1003000000000001\n1f03010000\n";
+                  120000020000\n1201000100\n1003000000000001\n1f03010000\n";
     assert_eq!(desk::output(above(masking()).as_bytes()), output);
     let plain = above(masked(0, masking()));
     assert_eq!(judged(&plain, (2, 0), 100, PLENTY), meets(1));
@@ -62,7 +62,7 @@ fn r2_below_a_masked_length() {
     let below = |first: Task| text(&[vec![first], r1(1)].concat());
     // By its e alone: R2's vertex has 1 + 1 + 2 + 2 at tick 5, and 1 + 1 + 4 + 2 at tick 6.
     let output = "1000000000000001\n1001000000000001\n1002000000000001\n1003000100000001\n\
-                  11000100\n1101020000\n11020100\n1f03010000\n";
+                  1200000100\n120100020000\n1202000100\n1f03010000\n";
     for first in [masking(), masked(0, masking())] {
         assert_eq!(desk::output(below(first).as_bytes()), output);
     }
@@ -103,7 +103,7 @@ fn r5_meets_and_r6_misses() {
     let misses = Verdict::Misses { count: 3, cells: 2 };
     assert_eq!(judged(&text(&r5(4)), (1, 0), 100, PLENTY), misses);
     let output = desk::output(text(&r5(4)).as_bytes());
-    assert!(output.ends_with("1001000100000003\n11000101\n1f02010000\n"));
+    assert!(output.ends_with("1001000100000003\n1200000101\n1f02010000\n"));
 }
 
 #[test]
@@ -172,11 +172,11 @@ fn r11_short_texts() {
 }
 
 #[test]
-fn the_longest_path_has_200_vertices() {
-    let tasks = [self_edge(1, 1, 1), task(&[(1, 200)], &[])];
-    assert_eq!(lists(&tasks[0], 200, 64), Some(vec![vec![0; 200]]));
+fn the_longest_path_has_1_000_vertices() {
+    let tasks = [self_edge(1, 1, 1), task(&[(1, 1_000)], &[])];
+    assert_eq!(lists(&tasks[0], 1_000, 64), Some(vec![vec![0; 1_000]]));
     // One release a tick above: the load at t is t, and 1 + t exceeds t.
-    let path = format!("1100c8{}", "00".repeat(200));
+    let path = format!("120003e8{}", "00".repeat(1_000));
     let output = format!("1000000000000001\n1001000100000001\n{path}\n1f01010000\n");
     assert_eq!(desk::output(text(&tasks).as_bytes()), output);
 }
@@ -213,19 +213,19 @@ fn the_desks_work_area_exactly() {
 #[test]
 fn the_desks_witness_area_is_never_too_short() {
     let mut tasks = vec![self_edge(1, 1, 1); 7];
-    tasks.push(task(&[(1, 200)], &[]));
+    tasks.push(task(&[(1, 1_000)], &[]));
     // At tick 1, task 0 has its own 1, and each other task more than that.
     let mut output = String::from("1000000000000001\n");
     for number in 1..8 {
         output += &format!("100{number}000100000001\n");
-        let length = if number < 7 { 1 } else { 200 };
+        let length = if number < 7 { 1 } else { 1_000 };
         for higher in 0..number {
-            output += &format!("110{higher}{length:02x}{}\n", "00".repeat(length));
+            output += &format!("120{higher}{length:04x}{}\n", "00".repeat(length));
         }
     }
     output += "1f01070000\n";
     assert_eq!(desk::output(text(&tasks).as_bytes()), output);
-    let counts = judge_table(text(&tasks).as_bytes(), 1, &mut [0; 1_400]).unwrap();
+    let counts = judge_table(text(&tasks).as_bytes(), 1, &mut [0; 7_000]).unwrap();
     assert_eq!((counts.meets, counts.misses), (1, 7));
 }
 
@@ -265,7 +265,7 @@ fn the_desk_says_unfinished_with_its_budget() {
 fn a_task_with_astronomically_many_paths_is_refused_soon() {
     let edges: Vec<_> = (0..32).map(|n| (n / 12, n % 12, 1)).collect();
     let above = task(&[(1, 1); 12], &edges);
-    let text = text(&[above, task(&[(1, 200)], &[])]);
+    let text = text(&[above, task(&[(1, 1_000)], &[])]);
     assert_eq!(
         refusal(judged(&text, (1, 0), u32::MAX, PLENTY)),
         Some((9, 0))

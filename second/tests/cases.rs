@@ -97,7 +97,7 @@ fn masked() -> Vec<String> {
         meets(1, 12),
         misses(1, 18, &above),
         misses(1, 18, &above),
-        // Nothing above: 1 + 2, 3 + 2, 4 + 2 and 5 + 2 by tick 5; 1 + 199, 1 + 200 and 200 + 200 by tick 200.
+        // Nothing above: 1 + 2, 3 + 2, 4 + 2 and 5 + 2 by tick 5; 1 + 999, 1 + 1,000 and 1,000 + 1,000 by tick 1,000.
         meets(1, 0),
         meets(1, 0),
         misses(1, 0, &[]),
@@ -210,7 +210,7 @@ fn every_verdict_and_every_refusal_is_there() {
 #[test]
 fn areas_are_within_what_the_checked_program_lends() {
     for case in cases_of(&sequence()) {
-        assert!(case.work <= 8_192 && case.witness <= 1_500);
+        assert!(case.work <= 8_192 && case.witness <= 7_100);
     }
     assert!(sequence().len() <= MOST_BYTES);
 }

@@ -3,8 +3,9 @@
 use crate::common::{answered_lines, judged, texts_of};
 use second::bounds::{BUDGET, MOST_WORK_CELLS, WITNESS_CELLS};
 use second::case::{FINISHES, UNMARKED};
+use second::paths::complete_paths;
 use second::sequence::MOST_BYTES;
-use second::table::{Table, Task, Vertex};
+use second::table::{Table, Task, Ticks, Vertex};
 use second::text;
 use std::process::{Command, Output};
 
@@ -95,6 +96,91 @@ fn heavy_tables() {
     assert!((50_000..=500_000).contains(&counts.iter().sum::<u32>()));
 }
 
+/// The numbers of complete paths of a table's tasks by a tick, none above 64, and the vertices of the longest path.
+fn paths_by(table: &Table, d: Ticks) -> (Vec<usize>, usize) {
+    let paths = |task: &Task| complete_paths(task, d, 64).unwrap();
+    let lists: Vec<_> = table.tasks.iter().map(paths).collect();
+    let lengths = lists.iter().flatten().map(|path| path.steps.len());
+    let longest = lengths.max().unwrap();
+    (lists.iter().map(Vec::len).collect(), longest)
+}
+
+#[test]
+fn slow_tables() {
+    let family = family("slow");
+    assert_eq!(family.len(), 40);
+    let (mut often, mut tasks, mut several, mut long, mut far) = (0, 0, 0, 0, 0);
+    for (_, table) in &family {
+        assert!((2..=6).contains(&table.tasks.len()));
+        for task in &table.tasks {
+            assert!((1..=8).contains(&task.vertices.len()));
+            // A vertex of a slow task, or the only one of a task whose separation is a twentieth of its deadline.
+            let is_slow = |vertex: &Vertex| (400..=1_000).contains(&vertex.d.0);
+            let is_often = |vertex: &Vertex| {
+                let d = vertex.d;
+                (20..=50).contains(&d.0) && vertex.edges.iter().all(|edge| edge.p == d)
+            };
+            let all_slow = task.vertices.iter().all(is_slow);
+            assert!(all_slow || (task.vertices.len() == 1 && is_often(&task.vertices[0])));
+            often += u32::from(!all_slow);
+            tasks += 1;
+            let mut edges = task.vertices.iter().flat_map(|vertex| &vertex.edges);
+            far += u32::from(edges.any(|edge| edge.p > Ticks(1_000)));
+        }
+        let (counts, longest) = paths_by(table, Ticks(1_000));
+        several += u32::from(counts.iter().filter(|&&paths| paths > 2).count() > 1);
+        long += u32::from(longest >= 20);
+    }
+    assert!(5 * often >= tasks && 2 * often <= tasks, "{often} {tasks}");
+    assert!(several >= 25 && long >= 20, "{several} {long}");
+    assert!(3 * far >= tasks, "{far} {tasks}");
+}
+
+/// The four counts of each line that a family is answered with.
+fn counts_of(family: &[&str]) -> Vec<[u32; 4]> {
+    let lines = answered_lines(&generated(family).stdout);
+    let byte = |line: &str, at: usize| u32::from_str_radix(&line[at..at + 2], 16).unwrap();
+    let counts = |line: &str| [2, 4, 6, 8].map(|at| byte(line, at));
+    lines.lines().map(counts).collect()
+}
+
+#[test]
+fn verdicts_of_slow_tables() {
+    for arguments in [&["slow"][..], &["slow", "1"], &["latest", "slow"]] {
+        let counts = counts_of(arguments);
+        let sum = |at: usize| counts.iter().map(|counts| counts[at]).sum::<u32>();
+        assert_eq!((sum(2), sum(3)), (0, 0));
+        assert!(
+            sum(0) >= 8 * sum(1) && sum(1) >= 10,
+            "{} {}",
+            sum(0),
+            sum(1)
+        );
+    }
+    // Some have several groups to examine.
+    let counts = family("slow")
+        .into_iter()
+        .map(|(text, table)| last_count(&text, &table));
+    let counts: Vec<_> = counts.collect();
+    assert!(
+        counts.iter().filter(|&&count| count > 1).count() >= 3,
+        "{counts:?}"
+    );
+}
+
+#[test]
+fn the_longest_path() {
+    let family = family("long");
+    assert_eq!(family.len(), 1);
+    let (counts, longest) = paths_by(&family[0].1, Ticks(1_000));
+    assert_eq!((counts, longest), (vec![1, 1], 1_000));
+    // 1 + t exceeds every t; the first task's job finishes at 1.
+    let lines = ["1f01010000\n", "1f0101000000000001\n"];
+    let arguments = [&["long"][..], &["latest", "long"]];
+    let found = arguments.map(|arguments| answered_lines(&generated(arguments).stdout));
+    assert_eq!(found, lines);
+}
+
 #[test]
 fn some_of_each_begin_with_the_bench() {
     let sequence = generated(&["few"]).stdout;
@@ -122,11 +208,21 @@ fn some_of_each_begin_with_the_bench() {
     ];
     assert_eq!(lines[..bench.len()], bench);
     assert!(lines.len() > bench.len() + 20);
+    // The longest path comes last.
+    assert_eq!(lines.last(), Some(&"1f01010000"));
 }
 
 #[test]
 fn the_same_tables_asked_how_late() {
-    for family in [&["small"][..], &["paper", "1"], &["heavy"], &["few"]] {
+    for family in [
+        &["small"][..],
+        &["paper", "1"],
+        &["heavy"],
+        &["slow"],
+        &["slow", "1"],
+        &["long"],
+        &["few"],
+    ] {
         let asked = generated(&[&["latest"], family].concat());
         assert!(asked.status.success());
         assert!(2 * asked.stdout.len() <= MOST_BYTES);
@@ -151,7 +247,7 @@ fn the_sums_of_the_worst_finishes() {
 #[test]
 fn another_seed_gives_other_tables() {
     let families =
-        ["small", "paper"].map(|family| [generated(&[family]), generated(&[family, "1"])]);
+        ["small", "paper", "slow"].map(|family| [generated(&[family]), generated(&[family, "1"])]);
     for [own, first] in families {
         assert!(first.status.success() && own.stdout != first.stdout);
         assert_eq!(

@@ -94,7 +94,7 @@ fn masked() -> Vec<String> {
         meets(5, 1, 0, &[]),
         misses(1, 0, &[]),
         misses(1, 0, &[]),
-        meets(200, 1, 0, &[]),
+        meets(1_000, 1, 0, &[]),
         misses(1, 0, &[]),
         misses(1, 0, &[]),
     ];
@@ -144,7 +144,7 @@ fn the_same_from_run_to_run_and_not_too_long() {
     assert!(sequence == self::sequence());
     assert!(sequence.len() < 200_000);
     for case in cases_of(&sequence) {
-        assert!(case.work <= 8_192 && case.witness <= 1_500);
+        assert!(case.work <= 8_192 && case.witness <= 7_100);
     }
 }
 

@@ -46,6 +46,19 @@ const LONGER: Size = Size {
     p: 25,
 };
 
+/// Tables of slower cradles, with long paths among theirs.
+const SLOW: Size = Size {
+    tasks: 4,
+    vertices: 3,
+    edges: 4,
+    e: 250,
+    d: 1_000,
+    p: 4_000,
+};
+
+/// So many work cells are needed at most where a vertex is tried.
+const CELLS: u128 = 20_000;
+
 /// Checks every vertex of so many random tables of a size.
 fn check_tables(seed: u64, tables: u32, size: &Size) -> Seen {
     let mut random = Random(seed);
@@ -64,8 +77,20 @@ fn check_tables(seed: u64, tables: u32, size: &Size) -> Seen {
         }
     }
     assert!(2 * seen.masked_tables >= seen.tables, "{seen:?}");
-    assert!(seen.held_up > 1_000, "{seen:?}");
+    assert!(seen.held_up > tables / 4, "{seen:?}");
     seen
+}
+
+#[test]
+fn slow_tables() {
+    let seen = check_tables(13, 1_000, &SLOW);
+    assert!(seen.meets > 300 && seen.misses > 300, "{seen:?}");
+    assert!(seen.groups_left_out > 30, "{seen:?}");
+    assert!(
+        seen.equally_late > 30 && seen.not_the_first > 30,
+        "{seen:?}"
+    );
+    assert!(seen.more_than_the_old > 30, "{seen:?}");
 }
 
 #[test]
@@ -202,6 +227,10 @@ impl Asked<'_> {
         let higher = &tasks[..number];
         let counts: Vec<_> = higher.iter().map(|task| count_paths(task, d)).collect();
         if counts.iter().any(|&n| n > 64) || counts.iter().product::<u128>() > CHOICES {
+            return None;
+        }
+        let ranges: u128 = counts.iter().map(|paths| 2 * paths - 1).sum();
+        if u128::from(d) * ranges > CELLS {
             return None;
         }
         let lists: Vec<_> = higher.iter().map(|task| complete_paths(task, d)).collect();

@@ -65,14 +65,14 @@ fn the_largest_of_the_lower_ones_and_not_their_sum() {
 fn the_largest_m_there_is() {
     // It is an e, which is at most a d.
     let tasks = |m| {
-        let first = task(&[(1, 200), (200, 200)], &[]);
-        [first, masked(m, task(&[(200, 200)], &[]))]
+        let first = task(&[(1, 1_000), (1_000, 1_000)], &[]);
+        [first, masked(m, task(&[(1_000, 1_000)], &[]))]
     };
     let verdict = |m, vertex| judge_in(&tasks(m), (0, vertex), 1).0;
     let misses = Verdict::Misses { count: 1, cells: 0 };
-    assert_eq!([verdict(200, 0), verdict(200, 1)], [misses; 2]);
-    assert_eq!(verdict(199, 0), Verdict::Meets { count: 1 });
-    assert_eq!(verdict(199, 1), misses);
+    assert_eq!([verdict(1_000, 0), verdict(1_000, 1)], [misses; 2]);
+    assert_eq!(verdict(999, 0), Verdict::Meets { count: 1 });
+    assert_eq!(verdict(999, 1), misses);
 }
 
 #[test]
@@ -204,8 +204,8 @@ const LARGE: Size = Size {
     vertices: 8,
     edges: 12,
     e: 9,
-    d: 200,
-    p: 200,
+    d: 1_000,
+    p: 1_000,
 };
 
 /// The refusals of a vertex by both calls, alike, as the areas grow to what each one asks for and are then one cell short of it.

@@ -35,15 +35,15 @@ fn a_valid_text_is_readable() {
 
 #[test]
 fn m_is_read_high_byte_first_and_is_0_without_one() {
-    let of_e = |e| task(&[(1, 9), (e, 200)], &[(0, 1, 9)]);
-    let lengths = [0, 1, 2, 99, 128, 199, 200];
-    let tasks = lengths.map(|m| masked(m, of_e(200)));
+    let of_e = |e| task(&[(1, 9), (e, 1_000)], &[(0, 1, 9)]);
+    let lengths = [0, 1, 2, 99, 128, 256, 999, 1_000];
+    let tasks = lengths.map(|m| masked(m, of_e(1_000)));
     let table = read(text(&tasks).as_bytes()).unwrap();
     let found: Vec<_> = table.tasks.iter().map(|task| task.m).collect();
     assert_eq!(found, lengths.map(Ticks));
     let table = read(b"0401000002\n02000200c8\n00\n").unwrap();
     assert_eq!(table.tasks[0].m, Ticks(2));
-    // 512, which is within its bounds and above every e.
+    // 512, which is above every e.
     assert_eq!(check(b"0401000200\n02000200c8\n00\n"), (3, 2));
 }
 
@@ -60,9 +60,9 @@ fn m_out_of_its_bounds_is_row_3_at_the_tasks_line() {
             assert_eq!(check(behind.as_bytes()), (3, 4), "{m}");
         }
     }
-    // The largest e that can be read is 200: a longer m, within its bounds, is refused at the vertex's line.
-    for (m, expected) in [(1, (0, 0)), (200, (0, 0)), (201, (3, 2)), (1_000, (3, 2))] {
-        let lines = with(m, "0200c800c8\n00\n");
+    // The largest e is 999: a longer m, within its bounds, is refused at the vertex's line.
+    for (m, expected) in [(1, (0, 0)), (201, (0, 0)), (999, (0, 0)), (1_000, (3, 2))] {
+        let lines = with(m, "0203e703e8\n00\n");
         assert_eq!(check(lines.as_bytes()), expected, "{m}");
         assert_eq!(check(with(m, "zz\n").as_bytes()), (1, 2), "{m}");
     }
@@ -100,10 +100,10 @@ fn m_up_to_the_largest_e_wherever_it_is() {
             }
         }
     }
-    let long = |m| check_tasks(&[masked(m, task(&[(199, 200)], &[]))]);
+    let long = |m| check_tasks(&[masked(m, task(&[(999, 1_000)], &[]))]);
     assert_eq!(
-        [long(199), long(200), long(1_000)],
-        [(0, 0), (3, 2), (3, 2)]
+        [long(999), long(1_000), long(1_001)],
+        [(0, 0), (3, 2), (3, 1)]
     );
 }
 
@@ -145,7 +145,7 @@ fn the_last_vertexs_own_checks_come_before_ms() {
         ("0200000006\n", 3),
         ("0203e90006\n", 3),
         ("0200010000\n", 3),
-        ("02000100c9\n", 3),
+        ("02000103e9\n", 3),
         // A job longer than its own deadline, whose e m exceeds, and whose e it doesn't.
         ("0200020001\n", 13),
         ("0200070006\n", 13),

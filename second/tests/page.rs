@@ -45,6 +45,10 @@ fn bounds() {
     ];
     let expected = expected.map(|(what, least, most)| [what.into(), grouped(least), grouped(most)]);
     assert_eq!(rows("The bounds"), expected);
+}
+
+#[test]
+fn rounding() {
     let rounding = format!("largest_d = {}; largest_p = {} }}", D.end(), P.end());
     assert!(include_str!("../../tables/frames.awk").contains(&rounding));
 }

@@ -7,7 +7,7 @@ use second::case::{CHECK, DESK, FINISHES, LIST, UNMARKED};
 
 /// R1's output.
 const R1_OUTPUT: &str = "1000000000000001\n1001000000000001\n1002000100000001\n\
-                         1100020000\n11010100\n1f02010000\n";
+                         120000020000\n1201000100\n1f02010000\n";
 
 #[test]
 fn one_input() {

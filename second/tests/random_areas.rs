@@ -16,11 +16,21 @@ const SMALL: Size = Size {
     p: 9,
 };
 
+/// Tables of slower cradles, with long paths among theirs.
+const SLOW: Size = Size {
+    tasks: 4,
+    vertices: 3,
+    edges: 4,
+    e: 250,
+    d: 1_000,
+    p: 4_000,
+};
+
 #[test]
 fn budgets_and_areas() {
     let mut random = Random(4);
-    for _ in 0..600 {
-        let tasks = table(&mut random, &SMALL);
+    for number in 0..750 {
+        let tasks = table(&mut random, [&SMALL, &SLOW][usize::from(number % 5 == 0)]);
         for number in 0..tasks.len() {
             for vertex in 0..tasks[number].vertices.len() {
                 check_budgets(&tasks, number, vertex);
@@ -32,8 +42,8 @@ fn budgets_and_areas() {
 #[test]
 fn whole_tables() {
     let mut random = Random(5);
-    for _ in 0..600 {
-        let tasks = table(&mut random, &SMALL);
+    for number in 0..750 {
+        let tasks = table(&mut random, [&SMALL, &SLOW][usize::from(number % 5 == 0)]);
         check_table(&mut random, &tasks);
     }
 }
@@ -91,7 +101,8 @@ fn check_budgets(tasks: &[Task], number: usize, vertex: usize) {
 /// Checks a whole table against its vertices, with a random work area and rising budgets.
 fn check_table(random: &mut Random, tasks: &[Task]) {
     let bytes = text(tasks).into_bytes();
-    let cells = random.below(400);
+    let most = [400, 8_192][random.below(2)];
+    let cells = random.below(most);
     let mut before = Counts::default();
     for budget in [0, 1, 2, 5, 20, u32::MAX] {
         let mut work = work_area(cells);
@@ -112,7 +123,7 @@ fn count_each(tasks: &[Task], bytes: &[u8], budget: u32, cells: usize) -> Counts
     let mut vertices = 0;
     for (number, task) in (0..).zip(tasks) {
         for vertex in 0..task.vertices.len() as u16 {
-            let (mut work, mut witness) = (work_area(cells), witness_area(1_407));
+            let (mut work, mut witness) = (work_area(cells), witness_area(7_007));
             let (task, vertex) = (TaskNo(number), VertexNo(vertex));
             match judge(bytes, task, vertex, budget, &mut work, &mut witness) {
                 Verdict::Meets { .. } => counts.meets += 1,

@@ -25,6 +25,8 @@ struct Seen {
     exact: u32,
     several_groups: u32,
     later_paths: u32,
+    /// Of a miss, with more vertices than one byte counts.
+    long_paths: u32,
 }
 
 /// Small tables, for which every choice can be tried.
@@ -46,6 +48,37 @@ const LARGE: Size = Size {
     d: 200,
     p: 400,
 };
+
+/// Tables of slower cradles, with long paths among theirs.
+const SLOW: Size = Size {
+    tasks: 4,
+    vertices: 3,
+    edges: 4,
+    e: 250,
+    d: 1_000,
+    p: 4_000,
+};
+
+#[test]
+fn slow_tables() {
+    let mut random = Random(4);
+    let mut seen = Seen::default();
+    for _ in 0..1_500 {
+        check_desk(text(&table(&mut random, &SLOW)).as_bytes(), &mut seen);
+    }
+    let Seen { meets, misses, .. } = seen;
+    assert!(meets > 500 && misses > 500 && seen.exact > 500, "{seen:?}");
+    assert!(
+        seen.several_groups > 1_000 && seen.later_paths > 100,
+        "{seen:?}"
+    );
+    assert!(
+        seen.refused_by_9 > 50 && seen.refused_by_10 > 50,
+        "{seen:?}"
+    );
+    assert!(seen.long_paths > 20, "{seen:?}");
+    check_masked(&seen);
+}
 
 #[test]
 fn small_tables() {
@@ -136,7 +169,7 @@ fn see_masked_length(input: &[u8], line: usize, seen: &mut Seen) {
     let number = |at| u32::from_str_radix(&line[at..at + 4], 16).unwrap();
     seen.m_out_of_bounds += u32::from(line.starts_with("04") && !(1..=1_000).contains(&number(6)));
     if line.starts_with("02") {
-        let own = (1..=1_000).contains(&number(2)) && (1..=200).contains(&number(6));
+        let own = (1..=1_000).contains(&number(2)) && (1..=1_000).contains(&number(6));
         seen.m_too_large += u32::from(own);
     }
 }
@@ -222,6 +255,7 @@ impl Asked<'_> {
             1 => {
                 self.check_paths(paths);
                 seen.misses += 1;
+                seen.long_paths += u32::from(paths.iter().any(|frame| frame[2] > 0));
             }
             2 => {
                 assert!(count == 100_000 && product > 50_000);
@@ -240,8 +274,8 @@ impl Asked<'_> {
     fn check_paths(&self, frames: &[Vec<u32>]) {
         let mut rows = Vec::new();
         for (number, (task, frame)) in self.higher.iter().zip(frames).enumerate() {
-            assert_eq!(frame[..2], [0x11, number as u32]);
-            assert_eq!(frame[2] as usize, frame.len() - 3);
+            assert_eq!(frame[..2], [0x12, number as u32]);
+            assert_eq!((256 * frame[2] + frame[3]) as usize, frame.len() - 4);
             let path = path_of(frame);
             assert!(is_complete(task, &path, self.d));
             rows.push(loads(task, &path, self.d));
@@ -301,5 +335,5 @@ impl Asked<'_> {
 
 /// The vertices of a path frame.
 fn path_of(frame: &[u32]) -> Path {
-    frame[3..].iter().map(|&vertex| vertex as usize).collect()
+    frame[4..].iter().map(|&vertex| vertex as usize).collect()
 }

@@ -19,21 +19,36 @@ const SIZE: Size = Size {
     p: 200,
 };
 
+/// Tables of slower cradles, with long paths among theirs.
+const SLOW: Size = Size {
+    tasks: 4,
+    vertices: 3,
+    edges: 4,
+    e: 250,
+    d: 1_000,
+    p: 4_000,
+};
+
 #[test]
 fn words_say_what_the_frames_say() {
     let mut random = Random(6);
     let mut said = String::new();
     let mut masked_tables = 0;
-    for _ in 0..1_000 {
-        let tasks = table(&mut random, &SIZE);
+    let mut long = 0;
+    for number in 0..1_200 {
+        let tasks = table(&mut random, [&SIZE, &SLOW][usize::from(number % 6 == 0)]);
         masked_tables += u32::from(tasks.iter().any(|task| task.m > 0));
         let found = words(text(&tasks).as_bytes());
         assert_eq!(found, expected(&tasks, false));
         let found = words_with_why(text(&tasks).as_bytes());
         assert_eq!(found, expected(&tasks, true));
         said += &found;
+        // Paths of more vertices than one byte counts, in the frames of a miss.
+        let frames = desk::output(text(&tasks).as_bytes());
+        let is_long = |line: &&str| line.starts_with("12") && &line[4..8] > "00ff";
+        long += frames.lines().filter(is_long).count();
     }
-    assert!(masked_tables >= 500);
+    assert!(masked_tables >= 600);
     let often = |part: &str| assert!(said.matches(part).count() > 100, "{part}");
     often(", at worst after ");
     often("examined), with nothing above it");
@@ -49,6 +64,8 @@ fn words_say_what_the_frames_say() {
     often("REFUSED (9): task 1");
     often("REFUSED (10): ");
     often(", vertex 5 at tick ");
+    often(" ticks up to tick ");
+    assert!(long >= 5, "{long}");
     often("This may go out");
 }
 
@@ -95,7 +112,7 @@ fn vertex_words(tasks: &[Task], frame: &[usize], paths: &[Vec<usize>], why: bool
         }
         (1, ..) => {
             let releases = paths_words(higher, paths);
-            let load = |path: &Vec<usize>| load(&tasks[path[1]], &path[3..], d);
+            let load = |path: &Vec<usize>| load(&tasks[path[1]], &path[4..], d);
             let loads = paths.iter().map(load).sum::<u32>();
             let due = due_words(e_plus_b + loads, &masked, own, d);
             format!("{start}MISSES {deadline}, shown by these releases:\n{releases}{due}")
@@ -166,16 +183,34 @@ fn rows(higher: &[Task], d: u32) -> Vec<Vec<Vec<u32>>> {
 
 /// The lines of the paths of a miss, from their frames.
 fn paths_words(higher: &[Task], paths: &[Vec<usize>]) -> String {
-    let line = |frame: &Vec<usize>| path_words(higher, frame[1], &frame[3..]);
+    let line = |frame: &Vec<usize>| path_words(higher, frame[1], &frame[4..]);
     paths.iter().map(line).collect()
 }
 
-/// The line of a task's path.
+/// The line of a task's path: a run of four or more releases of one vertex is said once, with the p of its edge to itself.
 fn path_words(higher: &[Task], task: usize, path: &[usize]) -> String {
     let spans = spans(&higher[task], path).unwrap();
-    let at = |(vertex, span): (&usize, &u32)| format!("vertex {vertex} at tick {span}");
-    let releases: Vec<_> = path.iter().zip(&spans).map(at).collect();
-    format!("    task {task}: {}\n", releases.join(", "))
+    let mut parts = Vec::new();
+    let mut first = 0;
+    while first < path.len() {
+        let vertex = path[first];
+        let others = path[first..].iter().position(|&other| other != vertex);
+        let mut end = first + others.unwrap_or(path.len() - first);
+        let mut part = format!("vertex {vertex} at tick {}", spans[first]);
+        if end - first < 4 {
+            end = first + 1;
+        } else {
+            let is_own = |edge: &&(usize, usize, u32)| (edge.0, edge.1) == (vertex, vertex);
+            let every = match higher[task].edges.iter().find(is_own).unwrap().2 {
+                1 => "tick".to_string(),
+                p => format!("{p} ticks"),
+            };
+            part += &format!(" and every {every} up to tick {}", spans[end - 1]);
+        }
+        parts.push(part);
+        first = end;
+    }
+    format!("    task {task}: {}\n", parts.join(", "))
 }
 
 /// The line of the work that is due by the deadline.

@@ -210,7 +210,7 @@ fn row_3_e_and_d() {
     for good in [(1, 6), (6, 6), (1, 1)] {
         assert_eq!(vertex(good.0, good.1), (0, 0), "{good:?}");
     }
-    // e is within its bounds, though longer than any d.
+    // e is within its bounds, though longer than its d.
     for long in [(1_000, 6), (1_000, 1)] {
         assert_eq!(vertex(long.0, long.1), (13, 3), "{long:?}");
     }
@@ -219,21 +219,21 @@ fn row_3_e_and_d() {
         (1_001, 6),
         (65_535, 6),
         (1, 0),
-        (1, 201),
+        (1, 1_001),
         (1, 65_535),
     ] {
         assert_eq!(vertex(bad.0, bad.1), (3, 3), "{bad:?}");
     }
-    assert_eq!(check_tasks(&[task(&[(1, 200)], &[])]), (0, 0));
-    assert_eq!(check_tasks(&[task(&[(1, 201)], &[])]), (3, 2));
+    assert_eq!(check_tasks(&[task(&[(1, 1_000)], &[])]), (0, 0));
+    assert_eq!(check_tasks(&[task(&[(1, 1_001)], &[])]), (3, 2));
 }
 
 #[test]
 fn row_3_edges() {
     let edge = |from, to, p| check_with(5, &edge_line(from, to, p));
     assert_eq!(edge(1, 0, 6), (0, 0));
-    assert_eq!(edge(1, 1, 1_000), (0, 0));
-    assert_eq!(edge(1, 1, 1_001), (3, 5));
+    assert_eq!(edge(1, 1, 60_000), (0, 0));
+    assert_eq!(edge(1, 1, 60_001), (3, 5));
     assert_eq!(edge(1, 1, 65_535), (3, 5));
     assert_eq!(edge(1, 1, 0), (3, 5));
     assert_eq!(edge(2, 0, 6), (3, 5));
@@ -253,8 +253,8 @@ fn row_3_vertices_are_those_of_the_same_task() {
 fn row_4_d_of_the_starting_vertex_exceeds_p() {
     assert_eq!(check_tasks(&[self_edge(1, 7, 7)]), (0, 0));
     assert_eq!(check_tasks(&[self_edge(1, 8, 7)]), (4, 3));
-    assert_eq!(check_tasks(&[self_edge(1, 200, 200)]), (0, 0));
-    assert_eq!(check_tasks(&[self_edge(1, 200, 199)]), (4, 3));
+    assert_eq!(check_tasks(&[self_edge(1, 1_000, 1_000)]), (0, 0));
+    assert_eq!(check_tasks(&[self_edge(1, 1_000, 999)]), (4, 3));
     // Only the starting vertex's d counts.
     let two = |from, to| check_tasks(&[task(&[(1, 3), (1, 9)], &[(from, to, 5)])]);
     assert_eq!(two(0, 1), (0, 0));
@@ -321,10 +321,10 @@ fn row_7_bytes_after_the_end() {
 
 #[test]
 fn the_longest_valid_text() {
-    let edges: Vec<_> = (0..32).map(|n| (n / 12, n % 12, 1_000)).collect();
+    let edges: Vec<_> = (0..32).map(|n| (n / 12, n % 12, 60_000)).collect();
     // The largest task; without a masked length, its frame has two bytes less.
-    let largest = task(&[(200, 200); 12], &edges);
-    for (m, bytes) in [(200, 3_963), (1, 3_963), (0, 3_931)] {
+    let largest = task(&[(1_000, 1_000); 12], &edges);
+    for (m, bytes) in [(1_000, 3_963), (1, 3_963), (0, 3_931)] {
         let mut longest = text(&vec![masked(m, largest.clone()); 8]);
         assert_eq!(longest.len(), bytes);
         assert_eq!(check(longest.as_bytes()), (0, 0));

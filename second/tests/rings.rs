@@ -124,9 +124,9 @@ fn twelve_vertices_in_a_gear_table() {
 
 #[test]
 fn numbers_have_the_high_byte_first() {
-    let lines = "06008100c80304\n0600c800c803e8\n06000100010001\n00\n";
-    let vertices = [(129, 200), (200, 200), (1, 1)];
-    let ring = task(&vertices, &[(0, 1, 772), (1, 2, 1_000), (2, 0, 1)]);
+    let lines = "06008100c80304\n0603e803e8ea60\n06000100010001\n00\n";
+    let vertices = [(129, 200), (1_000, 1_000), (1, 1)];
+    let ring = task(&vertices, &[(0, 1, 772), (1, 2, 60_000), (2, 0, 1)]);
     check_reads_as(&format!("0503\n{lines}"), &[ring]);
 }
 
@@ -199,7 +199,7 @@ fn eight_tasks_in_every_mixture() {
 fn the_longest_text_of_rings() {
     for kind in KINDS {
         // A frame of 5 bytes and twelve of 15, eight times, and the end.
-        let mut longest = vendor_task(kind, &[(200, 200, 1_000); 12]).repeat(8) + "00\n";
+        let mut longest = vendor_task(kind, &[(1_000, 1_000, 60_000); 12]).repeat(8) + "00\n";
         assert_eq!(longest.len(), 8 * (5 + 12 * 15) + 3);
         assert_eq!(check(longest.as_bytes()), (0, 0));
         let table = read(longest.as_bytes()).unwrap();
@@ -212,7 +212,7 @@ fn the_longest_text_of_rings() {
 #[test]
 fn r1_as_rings_and_gear_tables_of_one() {
     let output = "1000000000000001\n1001000000000001\n1002000100000001\n\
-                  1100020000\n11010100\n1f02010000\n";
+                  120000020000\n1201000100\n1f02010000\n";
     for [first, second, third] in [
         ["05", "05", "05"],
         ["07", "07", "07"],
@@ -245,7 +245,7 @@ fn a_ring_above_a_vertex() {
     // don't either. So all five groups are examined.
     assert_eq!(above_one_vertex("05", 2), "1001000000000005\n1f04000000\n");
     // With e 3 the first leaves tick 4 free, and the second none.
-    let miss = "1001000100000004\n1100020102\n1f03010000\n";
+    let miss = "1001000100000004\n120000020102\n1f03010000\n";
     assert_eq!(above_one_vertex("05", 3), miss);
     // With e 1 all three together leave tick 4 free.
     assert_eq!(above_one_vertex("05", 1), "1001000000000001\n1f04000000\n");
@@ -257,7 +257,7 @@ fn a_gear_table_above_a_vertex() {
     // All three together leave tick 5 free with e 2.
     assert_eq!(above_one_vertex("07", 2), "1001000000000001\n1f04000000\n");
     // With e 3 the first leaves tick 4 free, and the second none.
-    let miss = "1001000100000004\n1100020101\n1f03010000\n";
+    let miss = "1001000100000004\n120000020101\n1f03010000\n";
     assert_eq!(above_one_vertex("07", 3), miss);
 }
 
@@ -273,19 +273,19 @@ fn round_a_ring_of_two() {
     check(
         "06000200020002\n06000300030003\n",
         "0200010006\n",
-        "1001000100000002\n110003000100\n",
+        "1001000100000002\n12000003000100\n",
     );
     // With e 2 and d 5, (0,1), with 1 and from tick 4 on 4, leaves tick 3 free, and (1,0), with 3 and from tick 4 on 4, none.
     check(
         "06000100020003\n06000300030003\n",
         "0200020005\n",
-        "1001000100000003\n1100020100\n",
+        "1001000100000003\n120000020100\n",
     );
     // It is the last p that leads to the first: with that one longer and the first one shorter, (0,1) overloads, with 4 from tick 3 on.
     check(
         "06000100020002\n06000300030004\n",
         "0200020005\n",
-        "1001000100000002\n1100020001\n",
+        "1001000100000002\n120000020001\n",
     );
 }
 
@@ -296,7 +296,7 @@ fn written_as_a_plain_task() {
             work: area,
             ..Case::plain(BACK, text.into())
         };
-        String::from_utf8(case.answer(&mut [])).unwrap()
+        String::from_utf8(case.answer(&mut [], &mut [])).unwrap()
     };
     let ring = "0503\n0600010004000a\n06000200050010\n06000300060008\n00\n";
     let written = "010303\n0200010004\n0200020005\n0200030006\n\

@@ -21,14 +21,24 @@ const SMALL: Size = Size {
     p: 40,
 };
 
+/// Tables of slower cradles, with long paths among theirs.
+const SLOW: Size = Size {
+    tasks: 3,
+    vertices: 3,
+    edges: 4,
+    e: 250,
+    d: 1_000,
+    p: 4_000,
+};
+
 /// Tables of the document's full bounds.
 const LARGE: Size = Size {
     tasks: 4,
     vertices: 12,
     edges: 32,
     e: 1_000,
-    d: 200,
-    p: 1_000,
+    d: 1_000,
+    p: 60_000,
 };
 
 /// A random text with rings and gear tables, and the tasks that it means: up to four among the plain ones, and at times none.
@@ -52,8 +62,9 @@ fn read_and_judged_as_the_plain_tasks() {
     let mut random = Random(50);
     let mut frames = String::new();
     let mut with_rings = 0;
-    for _ in 0..3_000 {
-        let (mixed, tasks) = random_text(&mut random, &SMALL);
+    for number in 0..3_600 {
+        let size = [&SMALL, &SLOW][usize::from(number % 6 == 0)];
+        let (mixed, tasks) = random_text(&mut random, size);
         let plain = text(&tasks);
         let table = read(mixed.as_bytes()).unwrap();
         assert_eq!(Record::from(&table), record(&tasks));
@@ -121,7 +132,7 @@ fn damage_vendor_line(random: &mut Random, text: &mut [u8]) {
         let count = [0, 1, 2, 3, 4, 5, 12, 13, 255][random.below(9)];
         line[2..].copy_from_slice(format!("{count:02x}").as_bytes());
     } else if line.len() == 14 {
-        let number = [0, 1, 3, 30, 200, 201, 1_000, 1_001, 65_535][random.below(9)];
+        let number = [0, 1, 3, 30, 1_000, 1_001, 60_000, 60_001, 65_535][random.below(9)];
         let first = 2 + 4 * random.below(3);
         line[first..first + 4].copy_from_slice(format!("{number:04x}").as_bytes());
     }

@@ -19,12 +19,12 @@ const VERTICES: [(u32, u32, u8); 23] = [
     (4, 5, 0),
     (5, 5, 0),
     (6, 5, 13),
-    (199, 199, 0),
-    (200, 199, 13),
     (200, 200, 0),
     (201, 200, 13),
-    (1_000, 200, 13),
-    (1_001, 200, 3),
+    (999, 999, 0),
+    (1_000, 999, 13),
+    (1_000, 1_000, 0),
+    (1_001, 1_000, 3),
     // e is 1 and 0 in its low byte.
     (257, 2, 13),
     (256, 200, 13),
@@ -33,9 +33,9 @@ const VERTICES: [(u32, u32, u8); 23] = [
     (0, 0, 3),
     (1_000, 0, 3),
     (0, 1, 3),
-    (202, 201, 3),
-    (1_000, 201, 3),
-    (201, 201, 3),
+    (1_002, 1_001, 3),
+    (1_000, 1_001, 3),
+    (1_001, 1_001, 3),
     (65_535, 65_535, 3),
 ];
 
@@ -65,7 +65,7 @@ fn in_each_vertex_of_a_plain_task() {
 
 #[test]
 fn at_every_deadline() {
-    for d in 1..=200 {
+    for d in 1..=999 {
         let vertex = |e| check_tasks(&[task(&[(e, d)], &[])]);
         assert_eq!(vertex(d), (0, 0), "{d}");
         assert_eq!([vertex(d + 1), vertex(1_000)], [(13, 2); 2], "{d}");
@@ -79,24 +79,24 @@ fn in_each_vertex_of_a_ring_and_a_gear_table() {
         (5, 5, 5, 0),
         (6, 5, 5, 13),
         (6, 5, 6, 13),
-        (6, 5, 1_000, 13),
-        (200, 200, 200, 0),
+        (6, 5, 60_000, 13),
+        (1_000, 1_000, 1_000, 0),
         (201, 200, 200, 13),
-        (200, 199, 199, 13),
-        (1_000, 200, 1_000, 13),
-        (1_001, 200, 1_000, 3),
+        (1_000, 999, 999, 13),
+        (1_000, 200, 60_000, 13),
+        (1_001, 1_000, 60_000, 3),
         // 3 comes first, for p, for d and for e.
         (6, 5, 0, 3),
-        (6, 5, 1_001, 3),
+        (6, 5, 60_001, 3),
         (1_000, 1, 65_535, 3),
         (6, 0, 7, 3),
-        (202, 201, 300, 3),
+        (1_002, 1_001, 3_000, 3),
         (0, 5, 7, 3),
         // 4 comes behind it.
         (6, 5, 4, 13),
         (5, 5, 4, 4),
-        (201, 200, 199, 13),
-        (200, 200, 199, 4),
+        (1_000, 999, 998, 13),
+        (1_000, 1_000, 999, 4),
         (1_000, 200, 1, 13),
         (3, 2, 1, 13),
     ] {
@@ -113,7 +113,7 @@ fn in_each_vertex_of_a_ring_and_a_gear_table() {
 }
 
 /// Masked lengths and (e, d) of the last of three vertices, the others with e 3: the number and line that the task is refused by, zeros if none.
-const BESIDE_M: [(u32, u32, u32, u8, usize); 12] = [
+const BESIDE_M: [(u32, u32, u32, u8, usize); 13] = [
     (3, 2, 1, 13, 4),
     // m exceeds every e, and the job its deadline.
     (4, 2, 1, 13, 4),
@@ -121,16 +121,17 @@ const BESIDE_M: [(u32, u32, u32, u8, usize); 12] = [
     (1_000, 201, 200, 13, 4),
     // The e that is too long would let m pass.
     (4, 4, 3, 13, 4),
-    (1_000, 1_000, 200, 13, 4),
+    (1_000, 1_000, 999, 13, 4),
     // Without a slip m is refused, or passes.
     (4, 3, 3, 3, 4),
-    (1_000, 200, 200, 3, 4),
+    (1_000, 999, 1_000, 3, 4),
+    (1_000, 1_000, 1_000, 0, 0),
     (4, 4, 4, 0, 0),
     // m outside its bounds is at the task's line.
     (1_001, 4, 3, 3, 1),
     // The last vertex's own 3.
     (4, 0, 3, 3, 4),
-    (4, 4, 201, 3, 4),
+    (4, 4, 1_001, 3, 4),
 ];
 
 #[test]
@@ -265,7 +266,7 @@ fn answer(mode: u8, bytes: &[u8]) -> String {
         witness: 10,
         ..Case::plain(mode, bytes.to_vec())
     };
-    String::from_utf8(case.answer(&mut [0; 10])).unwrap()
+    String::from_utf8(case.answer(&mut [0; 10], &mut [0; 10])).unwrap()
 }
 
 #[test]
@@ -290,10 +291,13 @@ fn r4_in_every_mode() {
 
 #[test]
 fn nothing_misses_with_nothing_above_and_no_masked_time() {
-    let mut own = masked(200, task(&[(1, 1), (5, 5), (199, 200), (200, 200)], &[]));
-    own.edges = vec![(0, 0, 1), (3, 3, 200)];
+    let mut own = masked(
+        1_000,
+        task(&[(1, 1), (5, 5), (199, 200), (1_000, 1_000)], &[]),
+    );
+    own.edges = vec![(0, 0, 1), (3, 3, 1_000)];
     // Its own masked length doesn't hold it up.
-    let finishes = (0..).zip([1, 5, 199, 200]);
+    let finishes = (0..).zip([1, 5, 199, 1_000]);
     for (vertex, finish) in finishes {
         let found = latest_in(std::slice::from_ref(&own), (0, vertex), 1, (0, 0));
         assert_eq!(found, meets(finish, 1, (0, 0), 0, &[]));
@@ -302,16 +306,16 @@ fn nothing_misses_with_nothing_above_and_no_masked_time() {
 
 #[test]
 fn masked_time_is_not_counted() {
-    let masking = |m| masked(m, task(&[(200, 200)], &[]));
+    let masking = |m| masked(m, task(&[(1_000, 1_000)], &[]));
     // e + B at d and past it, e below d and at it, each of them readable.
     for (e, d, m, finish) in [
         (4, 5, 1, Some(5)),
         (4, 5, 2, None),
         (5, 5, 1, None),
         (1, 1, 1, None),
-        (1, 200, 199, Some(200)),
-        (1, 200, 200, None),
-        (200, 200, 200, None),
+        (1, 1_000, 999, Some(1_000)),
+        (1, 1_000, 1_000, None),
+        (1_000, 1_000, 1_000, None),
     ] {
         let tasks = [task(&[(e, d)], &[]), masking(m)];
         assert_eq!(check_tasks(&tasks), (0, 0));

@@ -32,15 +32,15 @@ fn texts_for_the_reader() {
         for (e, d, number) in [
             (5, 5, 0),
             (6, 5, 13),
-            (199, 199, 0),
-            (200, 199, 13),
-            (200, 200, 0),
             (201, 200, 13),
-            (1_000, 200, 13),
-            (1_001, 200, 3),
+            (999, 999, 0),
+            (1_000, 999, 13),
+            (1_000, 1_000, 0),
+            (1_001, 1_000, 3),
+            (1_000, 201, 13),
             (1, 0, 3),
             (0, 0, 3),
-            (1_000, 201, 3),
+            (1_000, 1_001, 3),
         ] {
             let mut vertices = [(1, 9); 3];
             vertices[place] = (e, d);
@@ -50,9 +50,11 @@ fn texts_for_the_reader() {
             (5, 5, 5, 0),
             (6, 5, 5, 13),
             (201, 200, 200, 13),
-            (1_001, 200, 1_000, 3),
+            (1_000, 1_000, 1_000, 0),
+            (1_000, 999, 60_000, 13),
+            (1_001, 1_000, 60_000, 3),
             (6, 5, 0, 3),
-            (6, 5, 1_001, 3),
+            (6, 5, 60_001, 3),
             (6, 5, 4, 13),
             (5, 5, 4, 4),
         ] {
@@ -71,7 +73,9 @@ fn texts_for_the_reader() {
         (4, (3, 3), 3),
         (4, (4, 4), 0),
         (1_000, (201, 200), 13),
-        (1_000, (200, 200), 3),
+        (1_000, (999, 1_000), 3),
+        (1_000, (1_000, 999), 13),
+        (1_000, (1_000, 1_000), 0),
     ] {
         let tasks = [masked(m, task(&[(3, 9), (3, 9), last], &[]))];
         check(text(&tasks), number, 4);
@@ -196,9 +200,9 @@ fn tables_for_the_writer() {
 fn the_tasks_for_the_lister_are_readable() {
     let sequence = written_by(env!("CARGO_BIN_EXE_tasks_for_lister"), &[]);
     let texts = texts_of(LIST, &sequence);
-    // Behind the bench's 16 texts and the four with a masked length.
-    let tables: Vec<_> = texts[20..].iter().map(|text| read(text).unwrap()).collect();
-    assert_eq!(tables.len(), 200);
+    // Behind the bench's 16 texts, the four with a masked length and the twelve with long paths.
+    let tables: Vec<_> = texts[32..].iter().map(|text| read(text).unwrap()).collect();
+    assert_eq!(tables.len(), 203);
     let e = |table: &second::table::Table| -> Vec<_> {
         let vertices = table.tasks.iter().flat_map(|task| &task.vertices);
         vertices.map(|vertex| vertex.e.0).collect()

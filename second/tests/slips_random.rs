@@ -25,9 +25,9 @@ const LARGE: Size = Size {
     tasks: 5,
     vertices: 12,
     edges: 32,
-    e: 200,
-    d: 200,
-    p: 1_000,
+    e: 1_000,
+    d: 1_000,
+    p: 60_000,
 };
 
 /// The lines of a random valid text of plain tasks and up to three rings or gear tables.

@@ -83,7 +83,7 @@ fn unfinished() {
     let last = "\nmeets 51, misses 0, unfinished 1, refused 0\n\
                 This may NOT go out: not every job type was shown to meet its deadline.\n";
     assert!(table_words(table).ends_with(last));
-    let verdict = |budget| judged(table, (5, 0), budget, (8_192, 1_407));
+    let verdict = |budget| judged(table, (5, 0), budget, (8_192, 7_007));
     assert_eq!(verdict(124_414), Verdict::Unfinished { budget: 124_414 });
     assert_eq!(verdict(124_415), Verdict::Meets { count: 124_415 });
 }
@@ -100,7 +100,7 @@ fn unfinished_by_tick_10() {
     );
     assert!(include_str!("../../tables/unfinished.md").contains(&format!("`{line}`")));
     let lateness = |budget| {
-        let (mut work, mut witness) = (work_area(8_192), witness_area(1_407));
+        let (mut work, mut witness) = (work_area(8_192), witness_area(7_007));
         let (task, vertex) = (TaskNo(5), VertexNo(0));
         latest(
             table.as_bytes(),
@@ -260,4 +260,46 @@ fn vendor_ring_as_plain_tasks() {
         common::writing::written_back(table.as_bytes()),
         plain.as_bytes()
     );
+}
+
+#[test]
+fn cold_store() {
+    let table = include_str!("../../tables/cold_store.table");
+    let tasks = [
+        common::task(&[(80, 320), (40, 300)], &[(0, 1, 320), (1, 0, 400)]),
+        common::self_edge(150, 400, 800),
+        common::self_edge(60, 500, 8_000),
+        common::self_edge(300, 1_000, 4_000),
+        common::self_edge(250, 1_000, 60_000),
+    ];
+    assert_eq!(table, common::text(&tasks));
+    let words = table_words(table);
+    // By tick 720 the receive windows at 0 and 720 and the send window at 320 have 80, then 120, and 200 behind it; decoding has 150, and 300
+    // behind tick 800. The flush: 250 + 300 + 60 + 150 + 120 = 880 by tick 720, with 200 it is 960 by tick 800, and 1,110 by tick 1,000. All
+    // paths of the radio together overload, and so do these: two groups.
+    let miss = "
+task 4, vertex 0: MISSES its deadline of 1000 ticks (2 groups examined), shown by these releases:
+    task 0: vertex 0 at tick 0, vertex 1 at tick 320, vertex 0 at tick 720
+    task 1: vertex 0 at tick 0, vertex 0 at tick 800
+    task 2: vertex 0 at tick 0
+    task 3: vertex 0 at tick 0
+    1110 ticks of work are due by the deadline, 250 of them its own: 110 ticks too many
+meets 5, misses 1, unfinished 0, refused 0
+This may NOT go out: a job type misses its deadline.
+";
+    assert!(words.ends_with(miss), "{words}");
+    // The radio: its own. Decoding: 150 + 80 by tick 320. The sensors: 60 + 80 + 150. The display: 300 + 60 + 150 and 120 by tick 720.
+    assert_eq!(worst_finishes(&words), [80, 40, 230, 290, 630]);
+    let frames = "1000000000000001\n1000010000000001\n1001000000000001\n1002000000000001\n1003000000000001\n\
+                  1004000100000002\n12000003000100\n120100020000\n1202000100\n1203000100\n1f05010000\n";
+    assert_eq!(second::desk::output(table.as_bytes()), frames);
+    // A flush of 140 has 1,000 by tick 1,000, and one of 141 a tick too many.
+    let yes = "\nThis may go out: every job type meets its deadline.\n";
+    let shorter = table_words(&table.replace("0200fa03e8", "02008c03e8"));
+    assert!(shorter.ends_with(yes) && worst_finishes(&shorter)[5] == 1_000);
+    let longer = table_words(&table.replace("0200fa03e8", "02008d03e8"));
+    assert!(longer.contains("141 of them its own: 1 tick too many\n"));
+    // With 1,000 between two scans, only one is decoded: 250 + 300 + 60 + 150 + 200.
+    let seldom = table_words(&table.replace("0300000320", "03000003e8"));
+    assert!(seldom.ends_with(yes) && worst_finishes(&seldom)[5] == 960);
 }

@@ -303,7 +303,7 @@ fn the_program_writes_an_empty_line_after_each_text() {
 }
 
 /// What is said of some text that the words are checked with.
-const SAID: [&str; 36] = [
+const SAID: [&str; 39] = [
     "REFUSED (1) at",
     "REFUSED (2) at",
     "REFUSED (3) at",
@@ -336,7 +336,10 @@ const SAID: [&str; 36] = [
     "ticks of it are task 5's masked time), ",
     "13 ticks of work (11 ticks of it are task 1's masked time) are due",
     ": 1 tick too many",
-    "at tick 199",
+    "vertex 0 at tick 0 and every tick up to tick 199\n",
+    "vertex 0 at tick 0 and every 3 ticks up to tick 999\n",
+    "masked length exceeds its largest e\n    030001ea61\n",
+    "REFUSED (10): 9000 work cells",
     "This may go out",
     "not every job type was shown",
     "a job type misses",
@@ -353,7 +356,7 @@ fn the_texts_that_the_words_are_checked_with() {
     let texts: Vec<_> = texts
         .map(|text| fs::read(text.unwrap().path()).unwrap())
         .collect();
-    assert!((60..=120).contains(&texts.len()));
+    assert!((60..=130).contains(&texts.len()));
     assert!(texts.contains(&text(&common::r1(2)).into_bytes()));
     let words: Vec<_> = texts.iter().map(|text| words(text)).collect();
     for said in SAID {

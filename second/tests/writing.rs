@@ -60,18 +60,18 @@ fn a_masked_length_written() {
     assert_eq!(write(&record(&tasks), &mut area), Ok(54));
     assert_eq!(area, text);
     assert_eq!(said(&tasks, 53), Err((10, 54)));
-    let largest = masked(200, task(&[(200, 200)], &[]));
+    let largest = masked(1_000, task(&[(1_000, 1_000)], &[]));
     let mut area = byte_area(25);
     assert_eq!(write(&record(&[largest]), &mut area), Ok(25));
-    assert_eq!(area, b"04010000c8\n0200c800c8\n00\n");
+    assert_eq!(area, b"04010003e8\n0203e803e8\n00\n");
 }
 
 #[test]
 fn the_longest_text() {
-    let edges: Vec<_> = (0..32).map(|n| (n / 12, n % 12, 1_000)).collect();
-    let plain = task(&[(200, 200); 12], &edges);
+    let edges: Vec<_> = (0..32).map(|n| (n / 12, n % 12, 60_000)).collect();
+    let plain = task(&[(1_000, 1_000); 12], &edges);
     assert_eq!(said(&vec![plain.clone(); 8], PLENTY), Ok(3_931));
-    let longest = vec![masked(200, plain); 8];
+    let longest = vec![masked(1_000, plain); 8];
     assert_eq!(said(&longest, 3_963), Ok(3_963));
     assert_eq!(said(&longest, 3_962), Err((10, 3_963)));
     assert_eq!(said(&longest, 0), Err((10, 3_963)));
@@ -154,14 +154,15 @@ fn e_and_d() {
         }
         let d = |d: u32| {
             changed(|tasks| {
-                tasks[place].edges.iter_mut().for_each(|edge| edge.2 = 200);
+                let edges = tasks[place].edges.iter_mut();
+                edges.for_each(|edge| edge.2 = 1_000);
                 tasks[place].vertices[at] = (1, d);
             })
         };
-        for within in [1, 200] {
+        for within in [1, 201, 1_000] {
             assert_eq!(d(within), Ok(TABLE_BYTES));
         }
-        for outside in [0, 201, 65_535, 65_537, u32::MAX] {
+        for outside in [0, 1_001, 65_535, 65_537, u32::MAX] {
             assert_eq!(d(outside), Err((3, line)));
         }
     }
@@ -176,10 +177,10 @@ fn p() {
                 tasks[place].edges[at].2 = p;
             })
         };
-        for p in [1, 1_000] {
+        for p in [1, 1_001, 60_000] {
             assert_eq!(said(p), Ok(TABLE_BYTES));
         }
-        for p in [0, 1_001, 65_535, 65_545, u32::MAX] {
+        for p in [0, 60_001, 65_535, 65_545, u32::MAX] {
             assert_eq!(said(p), Err((3, line)));
         }
     }
@@ -195,15 +196,15 @@ fn d_of_the_starting_vertex() {
                 tasks[place].edges[at].2 = p;
             })
         };
-        for (d, p) in [(9, 9), (1, 1), (200, 200), (200, 1_000)] {
+        for (d, p) in [(9, 9), (1, 1), (1_000, 1_000), (1_000, 60_000)] {
             assert_eq!(said(d, p), Ok(TABLE_BYTES));
         }
-        for (d, p) in [(10, 9), (2, 1), (200, 199)] {
+        for (d, p) in [(10, 9), (2, 1), (1_000, 999)] {
             assert_eq!(said(d, p), Err((4, line)));
         }
     }
     // d of the vertex that an edge leads to doesn't matter.
-    let apart = task(&[(1, 5), (1, 200)], &[(0, 1, 5)]);
+    let apart = task(&[(1, 5), (1, 1_000)], &[(0, 1, 5)]);
     assert_eq!(said(&[apart], PLENTY), Ok(7 + 3 * 11 + 3));
 }
 
@@ -254,13 +255,14 @@ fn masked_lengths() {
         }
         let long = |m: u32| {
             changed(|tasks| {
-                tasks[place].edges.iter_mut().for_each(|edge| edge.2 = 200);
-                tasks[place].vertices[1] = (200, 200);
+                let edges = tasks[place].edges.iter_mut();
+                edges.for_each(|edge| edge.2 = 1_000);
+                tasks[place].vertices[1] = (999, 1_000);
                 tasks[place].m = m;
             })
         };
-        assert_eq!(long(200), Ok(TABLE_BYTES + 4));
-        assert_eq!([long(201), long(1_000)], [Err((3, last)); 2]);
+        assert_eq!(long(999), Ok(TABLE_BYTES + 4));
+        assert_eq!(long(1_000), Err((3, last)));
         assert_eq!(long(1_001), Err((3, own)));
     }
 }
@@ -292,7 +294,7 @@ type Fault = (fn(&mut Vec<Task>), (u8, usize));
 fn the_first_line_decides() {
     let faults: [Fault; 10] = [
         (|tasks| tasks[0].m = 1_001, (3, 1)),
-        (|tasks| tasks[0].vertices[0].1 = 201, (3, 2)),
+        (|tasks| tasks[0].vertices[0].1 = 1_001, (3, 2)),
         (|tasks| tasks[0].vertices[1].0 = 6, (13, 3)),
         (|tasks| tasks[0].vertices[2].0 = 0, (3, 4)),
         (|tasks| tasks[0].edges[1].2 = 4, (4, 6)),
@@ -323,13 +325,13 @@ fn within_a_line() {
     for three in [(2, 2, 0), (2, 3, 4), (3, 2, 4), (0, 1, 0), (0, 3, 4)] {
         assert_eq!(edge(three), Err((3, 14)));
     }
-    for three in [(0, 3, 9), (0, 1, 1_001), (256, 0, 9)] {
+    for three in [(0, 3, 9), (0, 1, 60_001), (256, 0, 9)] {
         assert_eq!(edge(three), Err((3, 14)));
     }
     for four in [(2, 2, 4), (0, 1, 4), (1, 0, 4), (0, 2, 1)] {
         assert_eq!(edge(four), Err((4, 14)));
     }
-    for five in [(0, 1, 5), (1, 0, 5), (0, 2, 1_000)] {
+    for five in [(0, 1, 5), (1, 0, 5), (0, 2, 60_000)] {
         assert_eq!(edge(five), Err((5, 14)));
     }
     assert_eq!(edge((1, 1, 5)), Ok(TABLE_BYTES));

@@ -9,7 +9,7 @@ use std::process::{Command, Output};
 
 /// The words that the generator knows, the mode of each, and the most bytes of its sequence.
 const KINDS: [(&str, u8, usize); 3] = [
-    ("records", RECORD, 225_000),
+    ("records", RECORD, 230_000),
     ("texts", BACK, 60_000),
     ("cells", CELLS, 120_000),
 ];
@@ -40,7 +40,7 @@ fn tasks(case: &Case) -> Option<Vec<Task>> {
 fn checked(case: &Case) -> u8 {
     let Some(tasks) = tasks(case) else {
         let check = desk::check(&case.text).into_bytes();
-        assert!(check.starts_with(b"1e") && case.answer(&mut []) == check);
+        assert!(check.starts_with(b"1e") && case.answer(&mut [], &mut []) == check);
         return 1;
     };
     let (number, place, text) = match expected(&tasks, case.work as usize) {
@@ -49,7 +49,7 @@ fn checked(case: &Case) -> u8 {
     };
     let front = text.len();
     let answer = format!("{number:02x}{place:08x}{front:08x}01\n{text}");
-    assert_eq!(case.answer(&mut []), answer.as_bytes());
+    assert_eq!(case.answer(&mut [], &mut []), answer.as_bytes());
     number
 }
 
@@ -108,7 +108,7 @@ fn the_program_answers_them_one_after_the_other() {
     for (word, _, _) in KINDS {
         let sequence = generated(&[word]).stdout;
         let cases = cases_of(&sequence);
-        let answers = cases.iter().flat_map(|case| case.answer(&mut []));
+        let answers = cases.iter().flat_map(|case| case.answer(&mut [], &mut []));
         assert_eq!(answered(&sequence), answers.collect::<Vec<_>>());
     }
 }

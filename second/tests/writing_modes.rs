@@ -19,7 +19,7 @@ fn repeated(mode: u8, bytes: &[u8], area: u32, budget: u32) -> String {
         work: area,
         ..Case::plain(mode, bytes.to_vec())
     };
-    String::from_utf8(case.answer(&mut [])).unwrap()
+    String::from_utf8(case.answer(&mut [], &mut [])).unwrap()
 }
 
 /// The answer of a text that was written: all else of the area is unchanged.
@@ -224,8 +224,9 @@ fn nine_tasks_of_cells() {
     for ninth in [&[0, 0][..], &[0, 1], &[255; 7]] {
         let list = [&one.repeat(8), ninth].concat();
         assert_eq!(answer(CELLS, &list, 4_000), refused(2, 17));
+        // The high byte of the eighth task's d, which is 1,029 then.
         let mut faulty = list;
-        faulty[7 * 10 + 9] = 201;
+        faulty[7 * 10 + 8] = 4;
         assert_eq!(answer(CELLS, &faulty, 4_000), refused(3, 16));
     }
 }

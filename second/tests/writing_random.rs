@@ -17,8 +17,8 @@ const LARGE: Size = Size {
     vertices: 12,
     edges: 32,
     e: 1_000,
-    d: 200,
-    p: 1_000,
+    d: 1_000,
+    p: 60_000,
 };
 
 /// Tables of few tasks.
@@ -119,7 +119,7 @@ fn different_texts_are_different_tables() {
 
 /// A number of a line that a rule may refuse, at times too large for its bytes.
 fn any_number(random: &mut Random) -> u32 {
-    let near = [0, 1, 2, 12, 13, 32, 33, 200, 201, 1_000, 1_001];
+    let near = [0, 1, 2, 12, 13, 32, 33, 201, 1_000, 1_001, 60_000, 60_001];
     let far = [255, 256, 65_535, 65_536, 65_537, u32::MAX];
     match random.below(6) {
         0 => far[random.below(far.len())],

@@ -1,10 +1,10 @@
 -- The paths of a miss at their places, one task after the other.
-use mathlib.Core.Path.{_≡_, refl, sym, ap, subst, _∙_}
+use mathlib.Core.Path.{_≡_, refl, ap, ap₂, subst, _∙_}
 use Prim.Native.Nat.{ℕ, zero, suc, _+_, _≤_, _<_, zero-le}
 use native.Mathlib.Omega.{arith}
 use native.Mathlib.Decide.{decLt}
-use mathlib.Core.List.{List, [], _∷_, map}
-use lib.ListN.{length, take, getD, length-map, List·getD-eq-default}
+use mathlib.Core.List.{List, [], _∷_}
+use lib.ListN.{length, take, getD, set, length-set, List·getD-eq-default}
 use Rattle.meaning.specs.Bounds.{largestD}
 use Rattle.meaning.specs.Table as Meant
 use Rattle.meaning.specs.Table.{noTask}
@@ -13,36 +13,14 @@ use Rattle.meaning.specs.Sound.{SoundTask}
 use Rattle.meaning.specs.Areas.{Wrote}
 use Rattle.meaning.proofs.Lists.{mem-getD}
 use Rattle.meaning.proofs.PathsOf.{paths-short}
-use Rattle.kinds.specs.declared.VertexNumber.{VertexNumber}
+use Rattle.meaning.proofs.Wrote.{wrote-then}
 use Rattle.table.specs.declared.Task.{Task}
-use Rattle.table.specs.Record.{padded}
-use Rattle.table.specs.Inner.{vertexNumber, taskOf, HeldTask}
+use Rattle.table.specs.Inner.{taskOf, HeldTask}
 use Rattle.table.proofs.Record.{take-padded, length-padded}
 use Rattle.lister.specs.declared.Path as Lister
 use Rattle.lister.specs.Place.{pathRecord}
-use Rattle.areas.specs.Witness.{pathCell, pathCells, pathAt, pathsAt}
-
--- ---- a path's record holds the path
-
-numbers-undone : (w : List ℕ) → map (λ (v : VertexNumber). v .0) (map vertexNumber w) ≡ w
-numbers-undone [] = refl
-numbers-undone (x ∷ w) = ap (λ (l : List ℕ). x ∷ l) (numbers-undone w)
-
-record-cells : (w : Path) → pathCells (pathRecord w) ≡ pathCell w
-unfolding pathRecord
-record-cells w =
-    let cells = padded largestD (vertexNumber 0) (map vertexNumber w) in
-    let front : take (length w) cells ≡ map vertexNumber w =
-    ap (λ (n : ℕ). take n cells) (sym (length-map w vertexNumber)) ∙ take-padded largestD (vertexNumber 0) (map vertexNumber w) in
-    ap (λ (l : List ℕ). length w ∷ l) (ap (map (λ (v : VertexNumber). v .0)) front ∙ numbers-undone w)
-
-record-len : (w : Path) → pathRecord w .len ≡ length w
-unfolding pathRecord
-record-len w = refl
-
-record-size : (w : Path) → length w ≤ largestD → length (pathRecord w .vertices) ≡ largestD
-unfolding pathRecord
-record-size w h = length-padded largestD (vertexNumber 0) (map vertexNumber w) (omega (arith, length-map w vertexNumber))
+use Rattle.areas.specs.Witness.{pathCell, pathAt, pathsAt}
+use Rattle.areas.proofs.Placing.{Placing, placing-none, placing-all}
 
 -- ---- the path at a place
 
@@ -54,27 +32,39 @@ place-short k s d o p =
       | no h ↦ rw (List·getD-eq-default (pathsOf k d) [] {n = p} (omega arith)) zero-le
     ]
 
-module _ (t : Task) (k : HeldTask t) (d : ℕ) (o : 0 < d) (u : d ≤ largestD) (p : ℕ) (r : Lister.Path) (e : r ≡ pathRecord (pathAt (taskOf t) d p)) where
+module _ {t : Task} {d : ℕ} {r : Lister.Path} (k : HeldTask t) (o : 0 < d) (u : d ≤ largestD) (p : ℕ) (e : r ≡ pathRecord (pathAt (taskOf t) d p)) where
   abbrev path : Path
   path = pathAt (taskOf t) d p
 
   short : length path ≤ d
   short = place-short (taskOf t) (k .sound) d o p
 
-  pub path-asks : (at room : ℕ) → at + (1 + d) ≤ room → (r .len ≤ largestD) × (length (r .vertices) ≡ largestD) × (at + 1 + r .len ≤ room)
-  path-asks at room h =
-      let long : r .len ≡ length path = ap (λ (x : Lister.Path). x .len) e ∙ record-len path in (
-        omega (arith, short),
-        ap (λ (x : Lister.Path). length (x .vertices)) e ∙ record-size path (omega (arith, short)),
-        omega (arith, short),
-      )
+  len : r .len ≡ length path
+  unfolding pathRecord
+  len = ap (λ (x : Lister.Path). x .len) e
 
-  pub path-written : {before after : List ℕ} {at next : ℕ} → Wrote (pathCells r) before at after next
-      → Wrote (pathCell path) before at after next × (next ≤ at + (1 + d))
-  path-written {before} {after} {at} {next} w =
-      let v : Wrote (pathCell path) before at after next =
-      subst (λ (cells : List ℕ). Wrote cells before at after next) (ap pathCells e ∙ record-cells path) w in
-      (v, omega (arith, v .end, short))
+  pub len-short : r .len ≤ d
+  len-short = omega (arith, len, short)
+
+  size : length (r .vertices) ≡ largestD
+  unfolding pathRecord
+  size = ap (λ (x : Lister.Path). length (x .vertices)) e ∙ length-padded largestD 0 path (omega (arith, short))
+
+  front : take (r .len) (r .vertices) ≡ path
+  unfolding pathRecord
+  front = ap (λ (x : Lister.Path). take (x .len) (x .vertices)) e ∙ take-padded largestD 0 path
+
+  -- its length is written, and then its vertices are placed
+  module _ (at : ℕ) (before : List ℕ) (room : at + (1 + d) ≤ length before) where
+    pub place-begun : Placing (r .vertices) (r .len) (at + 1) (set before at (r .len)) (set before at (r .len)) 0
+    place-begun = placing-none (r .vertices) (r .len) (at + 1) _ (omega (arith, len-short)) size (rw length-set (omega (arith, len-short)))
+
+    pub place-written : {after : List ℕ} {i : ℕ} → Placing (r .vertices) (r .len) (at + 1) (set before at (r .len)) after i → r .len ≤ i
+        → Wrote (pathCell path) before at after (at + 1 + r .len) × (at + 1 + r .len ≤ at + (1 + d))
+    place-written {after} p h =
+        let w = wrote-then (r .len ∷ []) (take (r .len) (r .vertices)) (record { cells = refl; end = refl }) (placing-all p h) in
+        let same : r .len ∷ take (r .len) (r .vertices) ≡ pathCell path = ap₂ (λ (n : ℕ) (x : List ℕ). n ∷ x) len front in
+        (subst (λ (x : List ℕ). Wrote x before at after (at + 1 + r .len)) same w, omega (arith, len-short))
 
 -- ---- the paths at their places
 

@@ -1,19 +1,13 @@
--- The cells of a path by value, and the paths at places of the higher tasks' lists.
+-- The cells of a path, and the paths at places of the higher tasks' lists.
 use Prim.Native.Nat.{ℕ}
-use mathlib.Core.List.{List, [], _∷_, map}
-use lib.ListN.{length, take, getD}
+use mathlib.Core.List.{List, [], _∷_}
+use lib.ListN.{length, getD}
 use Rattle.meaning.specs.Table.{Task}
 use Rattle.meaning.specs.Paths.{Path, pathsOf}
-use Rattle.kinds.specs.declared.VertexNumber.{VertexNumber}
-use Rattle.lister.specs.declared.Path as Lister
 
 -- the path's length and vertices
 abbrev pub pathCell : Path → List ℕ
 pathCell w = length w ∷ w
-
--- those of a path by value
-abbrev pub pathCells : Lister.Path → List ℕ
-pathCells p = p .len ∷ map (λ (v : VertexNumber). v .0) (take (p .len) (p .vertices))
 
 -- the path at a place of a task's list, none where there is no such place
 abbrev pub pathAt : Task → ℕ → ℕ → Path

@@ -8,9 +8,8 @@ fn print_length(n: usize) {
     io::write_all(1, &length);
 }
 
-pub(crate) fn print(text: &[u8]) {
-    let mut out = judge::output_room();
-    let end = judge::desk_output(text, &mut out);
+pub(crate) fn print(text: &[u8], out: &mut [u8]) {
+    let end = judge::desk_output(text, out);
     print_length(end);
     io::write_all(1, &out[..end]);
 }

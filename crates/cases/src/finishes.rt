@@ -1,10 +1,10 @@
 // How late is the latest, of every vertex of a table: a line, the desk's frame of the four counts, here of these verdicts, and the sum of the worst
 // finishes (4 bytes); or the desk's frame of a refused text. With the desk's budget, and areas for any vertex that are neither marked nor looked at.
+use crate::numbers::sum;
 use crate::print::end_line;
 use crate::whole::print_counts;
 use crate::whole::print_refusal;
 use bounds::DESK_BUDGET;
-use bounds::MOST_WITNESS;
 use counts::Counts;
 use counts::counted;
 use counts::no_counts;
@@ -18,44 +18,34 @@ use reader::read;
 use table::Table;
 ghost use Rattle.table.specs.Inner.{Held};
 
-// A sum that stays within its width. At most 96 finishes of at most 200 ticks don't get to where it stops.
-fn sum(a: u32, b: u32) -> u32 {
-    let room = u32::MAX - a;
-    if room < b {
-        return u32::MAX;
-    }
-    a + b
-}
-
-fn print_line(counts: Counts, finishes: u32) {
+fn print_line(counts: Counts, finishes: u64) {
     print_counts(counts, 1);
-    io::print_hex(1, finishes as u64, 8);
+    io::print_hex(1, finishes, 8);
     end_line();
 }
 
-fn print_finishes(text: &[u8], table: Table, work: &mut [u32])
+fn print_finishes(text: &[u8], table: Table, work: &mut [u32], witness: &mut [u16])
     requires { ⌜ Held table ⌝ }
 {
-    let mut witness = [0u16; MOST_WITNESS];
     let mut counts = no_counts();
-    let mut finishes: u32 = 0;
+    let mut finishes: u64 = 0;
     let mut at = first_place();
     while (at.task.0 as usize) < table.n {
         let own = table.tasks[at.task.0 as usize];
-        let told = latest(text, at.task, at.vertex, DESK_BUDGET, work, &mut witness);
+        let told = latest(text, at.task, at.vertex, DESK_BUDGET, work, witness);
         counts = counted(counts, verdict_in(told));
-        finishes = sum(finishes, lateness_finish(told) as u32);
+        finishes = sum(finishes, lateness_finish(told) as u64);
         at = next_place(own.nv, at);
     }
     print_line(counts, finishes);
 }
 
-pub(crate) fn print(text: &[u8], work: &mut [u32]) {
+pub(crate) fn print(text: &[u8], work: &mut [u32], witness: &mut [u16]) {
     let reading = read(text);
     let status = reading.status;
     let Status::Refused(at) = status else {
         let table = reading.table;
-        print_finishes(text, table, work);
+        print_finishes(text, table, work, witness);
         return;
     };
     print_refusal(at, 0);

@@ -16,6 +16,7 @@ mod check;
 mod desk;
 mod finishes;
 mod list;
+mod numbers;
 mod print;
 mod record;
 mod task;
@@ -54,8 +55,8 @@ fn answer_writing(header: &[u8], text: &[u8])
     say_unknown(mode);
 }
 
-// One case: its header, its text, and an area for any vertex.
-fn answer(header: &[u8], text: &[u8], work: &mut [u32])
+// One case: its header, its text, areas for any vertex, and room for any output.
+fn answer(header: &[u8], text: &[u8], work: &mut [u32], witness: &mut [u16], out: &mut [u8])
     requires { ⌜ (length (now header) ≡ headerBytes) × (stretchRoom ≤ length (now work)) ⌝ }
 {
     let mode = header[0];
@@ -68,15 +69,15 @@ fn answer(header: &[u8], text: &[u8], work: &mut [u32])
         return;
     }
     if mode == b'd' {
-        desk::print(text);
+        desk::print(text, out);
         return;
     }
     if mode == b'v' {
-        vertex::print(header, text, work);
+        vertex::print(header, text, work, witness);
         return;
     }
     if mode == b'f' {
-        vertex::print(header, text, work);
+        vertex::print(header, text, work, witness);
         return;
     }
     if mode == b't' {
@@ -88,20 +89,20 @@ fn answer(header: &[u8], text: &[u8], work: &mut [u32])
         return;
     }
     if mode == b'g' {
-        finishes::print(text, work);
+        finishes::print(text, work, witness);
         return;
     }
     answer_writing(header, text);
 }
 
-fn answer_all(bytes: &[u8], work: &mut [u32])
+fn answer_all(bytes: &[u8], work: &mut [u32], witness: &mut [u16], out: &mut [u8])
     requires { ⌜ stretchRoom ≤ length (now work) ⌝ }
 {
     let mut at = 0;
     while HEADER_BYTES <= bytes.len() - at {
         let from = at + HEADER_BYTES;
         let end = case_end(bytes, at);
-        answer(&bytes[at..from], &bytes[from..end], work);
+        answer(&bytes[at..from], &bytes[from..end], work, witness, out);
         at = end;
     }
 }
@@ -109,6 +110,8 @@ fn answer_all(bytes: &[u8], work: &mut [u32])
 fn main() {
     let mut bytes = sequences::room();
     let mut work = areas::work_room();
+    let mut witness = areas::witness_room();
+    let mut out = judge::output_room();
     let n = io::read_full(0, &mut bytes);
-    answer_all(&bytes[..n], &mut work);
+    answer_all(&bytes[..n], &mut work, &mut witness, &mut out);
 }

@@ -1,5 +1,6 @@
 // One task's lines: how many paths it has, at most MOST_LISTED; the first of them; and where it has at most MOST_PATHS, the sum of the cells of its stretch,
 // the loads of all its ranges, each times its place, from 1, so that rows in another order give another sum.
+use crate::numbers::sum;
 use crate::print::end_line;
 use crate::print::print_number;
 use bounds::LARGEST_D;
@@ -33,8 +34,7 @@ fn print_path(p: Path) {
         if i == n {
             break;
         }
-        let v = p.vertices[i];
-        print_number(wide(v.0), i);
+        print_number(wide(p.vertices[i]), i);
         i += 1;
     }
     end_line();
@@ -43,7 +43,6 @@ fn print_path(p: Path) {
 // A cell times its place, from 1.
 fn weighed(load: u32, place: usize) -> u64
     requires { ⌜ place ≤ stretchRoom ⌝ }
-    ensures { λ r. ⌜ r ≤ 4294967295 * stretchRoom ⌝ }
 {
     load as u64 * place as u64
 }
@@ -51,13 +50,13 @@ fn weighed(load: u32, place: usize) -> u64
 fn weigh(cells: &[u32]) -> u64
     requires { ⌜ length (now cells) ≤ stretchRoom ⌝ }
 {
-    let mut sum: u64 = 0;
+    let mut total: u64 = 0;
     let mut i: usize = 0;
     while i < cells.len() {
-        sum += weighed(cells[i], i + 1);
+        total = sum(total, weighed(cells[i], i + 1));
         i += 1;
     }
-    sum
+    total
 }
 
 // The task's stretch, from the front of the area; gives its number of cells.
@@ -74,8 +73,7 @@ fn print_loads(work: &mut [u32], t: Task, n: usize, d: Ticks)
     requires { ⌜ Listing t n (d .0) (now work) ⌝ }
 {
     let need = fill_stretch(work, t, n, d);
-    let sum = weigh(&work[..need]);
-    print_number(sum, 0);
+    print_number(weigh(&work[..need]), 0);
     end_line();
 }
 

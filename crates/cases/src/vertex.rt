@@ -5,7 +5,6 @@ use crate::areas::mark_witness;
 use crate::areas::mark_work;
 use crate::areas::print_witness;
 use crate::areas::print_work;
-use crate::areas::witness_room;
 use crate::print::end_line;
 use judge::judge;
 use judge::latest;
@@ -56,10 +55,9 @@ fn judge_in(header: &[u8], text: &[u8], work: &mut [u32], witness: &mut [u16])
 }
 
 // A case that asks for more cells than there are gets all of them.
-pub(crate) fn print(header: &[u8], text: &[u8], work: &mut [u32])
+pub(crate) fn print(header: &[u8], text: &[u8], work: &mut [u32], witness: &mut [u16])
     requires { ⌜ length (now header) ≡ headerBytes ⌝ }
 {
-    let mut witness = witness_room();
     let work_cells = least(number_at(header, 11), work.len());
     let witness_cells = least(number_at(header, 15), witness.len());
     judge_in(

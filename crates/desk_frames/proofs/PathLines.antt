@@ -7,15 +7,16 @@ use native.Mathlib.Decide.{decLt}
 use mathlib.Core.List.{List, [], _∷_, _++_, append-assoc, append-nil, List·Memᴰ, List·Memᴰ·head, List·Memᴰ·tail}
 use lib.ListN.{length, take, drop, getD, length-append, length-drop, drop-of-length-le}
 use lib.Seq.{take-append-seam, drop-append-seam, drop-cons, drop-drop, length-take-le}
+use Rattle.meaning.specs.Bounds.{pathLine}
 use Rattle.meaning.specs.Paths.{Path}
 use Rattle.meaning.specs.Verdict.{cellsOf}
 use Rattle.meaning.specs.Areas.{Wrote}
 use Rattle.meaning.specs.Lists.{gather}
 use Rattle.meaning.specs.Text.{digits, line}
-use Rattle.meaning.specs.Desk.{pathFrame}
+use Rattle.meaning.specs.Desk.{two, pathFrame}
 use Rattle.meaning.proofs.TextSize.{line-length}
 use Rattle.meaning.proofs.Wrote.{wrote-none, wrote-then, wrote-length}
-use Rattle.desk_frames.specs.Lines.{pathLine, FitsByte, Bytes, cellPaths, pathLines, WholePaths}
+use Rattle.desk_frames.specs.Lines.{FitsByte, Bytes, cellPaths, pathLines, WholePaths}
 
 -- ---- a path's frame: its head, then its vertices
 
@@ -24,9 +25,9 @@ pub wrote-low : {n : ℕ} {out after : List ℕ} {at next : ℕ} → FitsByte n
     → Wrote (digits (n % 256)) out at after next → Wrote (digits n) out at after next
 wrote-low {n} {out} {after} {at} {next} h w = let e : n % 256 ≡ n = omega arith in subst (λ (b : ℕ). Wrote (digits b) out at after next) e w
 
--- 11, task, length
+-- 12, task, length
 abbrev pathHead : ℕ → ℕ → List ℕ
-pathHead i n = 17 ∷ i ∷ n ∷ []
+pathHead i n = 18 ∷ i ∷ two n
 
 pub head-then : (i : ℕ) (w : Path) {out mid after : List ℕ} {at next last : ℕ}
     → Wrote (gather digits (pathHead i (length w))) out at mid next → Wrote (gather digits w) mid next after last
@@ -42,7 +43,6 @@ part cells k m = take (k + 1 + m - (k + 1)) (drop (k + 1) cells)
 -- a path at k, of which m cells are said, and n more behind it
 pub record Next (n : ℕ) (cells : List ℕ) (k m : ℕ) : Type 0 where
   pub long : k + 1 + m ≤ length cells
-  pub short : FitsByte m
   pub bytes : Bytes (part cells k m)
   pub on : WholePaths n (drop (k + 1 + m) cells)
   pub is : cellPaths (suc n) (drop k cells) ≡ part cells k m ∷ cellPaths n (drop (k + 1 + m) cells)
@@ -60,8 +60,7 @@ next-path n cells k w m e =
     let p = subst (WholePaths (suc n)) cut w in
     record {
       long = omega (arith, p .0 .0, length-drop (k + 1) cells);
-      short = p .0 .1;
-      bytes = subst Bytes own (p .0 .2);
+      bytes = subst Bytes own (p .0 .1);
       on = subst (WholePaths n) behind (p .1);
       is = ap (cellPaths (suc n)) cut ∙ ap₂ (λ (x : Path) (l : List ℕ). x ∷ cellPaths n l) own behind;
     }
@@ -134,8 +133,8 @@ module _ {h : ℕ} {cells out now : List ℕ} {at next k i : ℕ} (p : Pathing h
     unfolding own
     room = rw (splits, length-append (p .done ++ own) behind, length-append (p .done) own) (omega (arith, line-length (pathFrame i (part cells k m))))
 
-    pub path-asks : (next + pathLine (length (part cells k m)) ≤ length now) × FitsByte (length (part cells k m)) × Bytes (part cells k m)
-    path-asks = (omega (arith, room, p .room, p .same, p .wrote .end), omega (arith, part-length, ahead .short), ahead .bytes)
+    pub path-asks : (next + pathLine (length (part cells k m)) ≤ length now) × Bytes (part cells k m)
+    path-asks = (omega (arith, room, p .room, p .same, p .wrote .end), ahead .bytes)
 
     pub pathing-more : {after : List ℕ} {last : ℕ} → Wrote (line (pathFrame i (part cells k m))) now next after last
         → Pathing h cells out at after last (k + 1 + m) (i + 1)
@@ -168,16 +167,11 @@ cells-paths (w ∷ ws) rest =
     rw (append-assoc w (cellsOf ws) rest)
     (ap₂ (λ (p : Path) (ps : List Path). p ∷ ps) (take-append-seam w cells) (ap (cellPaths (length ws)) (drop-append-seam w cells) ∙ cells-paths ws rest))
 
--- each path's length and vertices fit a byte
-abbrev pub Small : Path → Type 0
-Small w = FitsByte (length w) × Bytes w
-
-pub cells-whole : (ws : List Path) (rest : List ℕ) → ((w : Path) → List·Memᴰ w ws → Small w) → WholePaths (length ws) (cellsOf ws ++ rest)
+pub cells-whole : (ws : List Path) (rest : List ℕ) → ((w : Path) → List·Memᴰ w ws → Bytes w) → WholePaths (length ws) (cellsOf ws ++ rest)
 cells-whole [] rest s = tt
 cells-whole (w ∷ ws) rest s =
     let cells = cellsOf ws ++ rest in
-    let small = s w (List·Memᴰ·head refl) in
     rw (append-assoc w (cellsOf ws) rest) (
-      (omega (arith, length-append w cells), small .0, subst Bytes (sym (take-append-seam w cells)) (small .1)),
+      (omega (arith, length-append w cells), subst Bytes (sym (take-append-seam w cells)) (s w (List·Memᴰ·head refl))),
       subst (WholePaths (length ws)) (sym (drop-append-seam w cells)) (cells-whole ws rest (λ v m. s v (List·Memᴰ·tail m))),
     )

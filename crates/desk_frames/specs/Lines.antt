@@ -2,7 +2,6 @@
 use Prim.Native.Nat.{ℕ, zero, suc, _+_, _≤_, _<_}
 use mathlib.Core.List.{List, [], _∷_, _++_}
 use lib.ListN.{length, take, drop, getD}
-use Rattle.meaning.specs.Bounds.{lineLength}
 use Rattle.meaning.specs.Paths.{Path}
 use Rattle.meaning.specs.Lists.{gather}
 use Rattle.meaning.specs.Text.{line}
@@ -13,16 +12,6 @@ use Rattle.kinds.specs.declared.VertexNumber.{VertexNumber}
 use Rattle.kinds.specs.declared.Verdict.{Verdict}
 use Rattle.kinds.specs.declared.Verdict.the-variants.{Meets, Misses, Unfinished, Refused}
 use Rattle.kinds.specs.Numbers.{verdictNumbers}
-
--- ---- how long lines are
-
--- 1e, number, line in 2 bytes
-abbrev pub refusalLine : ℕ
-refusalLine = lineLength 4
-
--- 11, task, length and n vertices
-abbrev pub pathLine : ℕ → ℕ
-pathLine n = lineLength (3 + n)
 
 -- ---- cells that hold paths, each with its length before it
 
@@ -43,11 +32,11 @@ cellPaths (suc h) (m ∷ cs) = take m cs ∷ cellPaths h (drop m cs)
 abbrev pub pathLines : ℕ → List Path → List ℕ
 pathLines i ws = gather line (pathFrames i ws)
 
--- there are h of them, with lengths and vertices that fit a byte
+-- there are h of them, with vertices that fit a byte
 abbrev pub WholePaths : ℕ → List ℕ → Type 0
 WholePaths zero cs = Unit {0}
 WholePaths (suc h) [] = ⊥
-WholePaths (suc h) (m ∷ cs) = ((m ≤ length cs) × FitsByte m × Bytes (take m cs)) × WholePaths h (drop m cs)
+WholePaths (suc h) (m ∷ cs) = ((m ≤ length cs) × Bytes (take m cs)) × WholePaths h (drop m cs)
 
 -- ---- a vertex's lines, from its verdict and the witness area
 

@@ -1,5 +1,5 @@
-// "Output is frames: 10, task, vertex, verdict, 4 bytes count (or refusal number) [..]; after a miss, one frame a higher task: 11, task, length,
-// vertices; last 1f and the four counts. A refused text or input gives only 1e, number, line in 2 bytes."
+// "Output is frames: 10, task, vertex, verdict, 4 bytes count (or refusal number) [..]; after a miss, one frame a higher task: [..] task, length, vertices;
+// last 1f and the four counts. A refused text or input gives only 1e, number, line in 2 bytes." By wish 7 a path's frame is 12, its length in 2 bytes.
 //
 // Each function writes lines into a lent area, from a place on, and gives the place behind them.
 mod path;
@@ -12,11 +12,11 @@ use path::path_lines;
 use put::put_line;
 ghost use Prim.Native.Nat.{_+_, _≤_};
 ghost use lib.ListN.{length};
-ghost use Rattle.meaning.specs.Bounds.{verdictLine, countsLine};
+ghost use Rattle.meaning.specs.Bounds.{verdictLine, countsLine, refusalLine};
 ghost use Rattle.meaning.specs.Text.{line};
 ghost use Rattle.meaning.specs.Desk.{countsFrame, refusalFrame};
 ghost use Rattle.kinds.specs.Numbers.{refusalNumber};
-ghost use Rattle.desk_frames.specs.Lines.{refusalLine, WholeShown, placeOf, shownVerdict, shownLines};
+ghost use Rattle.desk_frames.specs.Lines.{WholeShown, placeOf, shownVerdict, shownLines};
 ghost use Rattle.meaning.specs.Areas.{Wrote};
 
 // A vertex's verdict, and after a miss one path a higher task, out of the witness area's cells.

@@ -4,10 +4,11 @@ use put::put_bytes;
 ghost use mathlib.Core.Path.{_≡_};
 ghost use Prim.Native.Nat.{_+_, _*_, _≤_};
 ghost use lib.ListN.{length};
+ghost use Rattle.meaning.specs.Bounds.{pathLine};
 ghost use Rattle.meaning.specs.Lists.{gather};
 ghost use Rattle.meaning.specs.Text.{digits, line};
 ghost use Rattle.meaning.specs.Desk.{pathFrame};
-ghost use Rattle.desk_frames.specs.Lines.{pathLine, FitsByte, Bytes, WholePaths, cellPaths, pathLines};
+ghost use Rattle.desk_frames.specs.Lines.{FitsByte, Bytes, WholePaths, cellPaths, pathLines};
 ghost use Rattle.meaning.specs.Areas.{Wrote};
 
 fn wide(x: u16) -> usize
@@ -30,12 +31,13 @@ fn put_vertices(out: &mut [u8], at: usize, vertices: &[u16]) -> usize
     next
 }
 
-// One task's path.
+// One task's path; "the program's path frame becomes 12 with a two-byte length".
 fn path_line(out: &mut [u8], at: usize, task: u8, path: &[u16]) -> usize
-    requires { ⌜ (at + pathLine (length (now path)) ≤ length (now out)) × FitsByte (length (now path)) × Bytes (now path) ⌝ }
+    requires { ⌜ (at + pathLine (length (now path)) ≤ length (now out)) × Bytes (now path) ⌝ }
     ensures { λ r. ⌜ Wrote (line (pathFrame task (now (path .entry)))) (now (out .entry)) at (now (out .exit)) r ⌝ }
 {
-    let head = [17u8, task, path.len() as u8];
+    let n = path.len();
+    let head = [18u8, task, (n / 256 % 256) as u8, (n % 256) as u8];
     let behind = put_bytes(out, at, &head);
     let next = put_vertices(out, behind, path);
     out[next] = 10;

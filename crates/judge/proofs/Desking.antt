@@ -4,7 +4,7 @@ use Prim.Native.Nat.{ℕ, _+_, _≤_, _<_}
 use native.Mathlib.Omega.{arith}
 use mathlib.Core.List.{List, [], _++_, map, append-nil, append-assoc}
 use lib.ListN.{length, length-append}
-use Rattle.meaning.specs.Bounds.{deskBudget, deskWork, deskWitness, countsLine, longestOutput}
+use Rattle.meaning.specs.Bounds.{deskBudget, deskWork, deskWitness, countsLine}
 use Rattle.meaning.specs.Table as Meant
 use Rattle.meaning.specs.Verdict.{numbers, plain}
 use Rattle.meaning.specs.Areas.{workNeed, Wrote}
@@ -26,6 +26,7 @@ use Rattle.counts.specs.declared.Counts.{Counts}
 use Rattle.counts.specs.Counts.{meantCounts}
 use Rattle.counts.specs.Inner.{noCounts, oneMore}
 use Rattle.counts.specs.Place.{firstPlace}
+use Rattle.judge.specs.Desk.{tableRoom}
 use Rattle.judge.specs.Inner.{Answered, VertexJudged, nextIn, tableOutput}
 use Rattle.judge.proofs.Told.{answered}
 use Rattle.judge.proofs.Remaining.{remaining, remaining-first}
@@ -48,10 +49,10 @@ pub record Desking (t : Table) (out now work wit : List ℕ) (c : Counts) (q : P
   pub done : List ℕ
   pub wrote : Wrote done out 0 now at
   pub whole : bytesOf (tableOf t) (places (tableOf t)) ≡ done ++ bytesOf (tableOf t) (remaining (tableOf t) q)
-  pub room : longestOutput ≤ length out
+  pub room : tableRoom (tableOf t) ≤ length out
   pub same : length now ≡ length out
 
-pub desking-none : {t : Table} {out work wit : List ℕ} → Held t × (longestOutput ≤ length out) → length work ≡ deskWork → length wit ≡ deskWitness
+pub desking-none : {t : Table} {out work wit : List ℕ} → Held t × (tableRoom (tableOf t) ≤ length out) → length work ≡ deskWork → length wit ≡ deskWitness
     → {c : Counts} {q : Place} → c ≡ noCounts → q ≡ firstPlace → Desking t out out work wit c q 0
 desking-none {t} {out} h a b e f =
     record {

@@ -12,6 +12,8 @@ pub mod Cases
 pub mod Demands
 pub mod MaskedLengths
 pub mod OwnDeadline
+pub mod SlowerCradles
+pub mod Rooms
 pub mod DeskLines
 pub mod Shown
 pub mod Desking

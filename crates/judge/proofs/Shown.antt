@@ -21,8 +21,8 @@ use Rattle.meaning.proofs.MissPaths.{miss-count, miss-fits}
 use Rattle.kinds.specs.declared.Verdict.{Verdict}
 use Rattle.kinds.specs.declared.Verdict.the-variants.{Meets, Misses, Unfinished, Refused}
 use Rattle.kinds.specs.Numbers.{verdictNumbers}
-use Rattle.desk_frames.specs.Lines.{WholePaths, WholeShown, cellPaths, pathLines, shownLines}
-use Rattle.desk_frames.proofs.PathLines.{Small, cells-paths, cells-whole}
+use Rattle.desk_frames.specs.Lines.{Bytes, WholePaths, WholeShown, cellPaths, pathLines, shownLines}
+use Rattle.desk_frames.proofs.PathLines.{cells-paths, cells-whole}
 use Rattle.judge.specs.Inner.{Answered}
 use Rattle.judge.proofs.Cases.{says-meets, says-misses, says-unfinished, says-refused}
 use Rattle.judge.proofs.DeskLines.{vertexLines}
@@ -42,7 +42,7 @@ module _ (ts : Table) (s : SoundTable ts) (q : Place) (m : List·Memᴰ q (place
       let p = place-in ts q m in
       let many = miss-count ts s (q .task) (q .vertex) (p .0) (p .1) plain deskBudget deskWork deskWitness c ws e in
       let fits = miss-fits ts s (q .task) (q .vertex) (p .0) (p .1) plain deskBudget deskWork deskWitness c ws e in
-      let small : (w : Path) → List·Memᴰ w ws → Small w = λ w n. (omega (arith, fits w n .short), λ j. omega (arith, fits w n .vertices j)) in (
+      let small : (w : Path) → List·Memᴰ w ws → Bytes w = λ w n j. omega (arith, fits w n .vertices j) in (
         subst (λ (h : ℕ). WholePaths h (cellsOf ws ++ rest)) many (cells-whole ws rest small),
         ap (λ (h : ℕ). cellPaths h (cellsOf ws ++ rest)) (sym many) ∙ cells-paths ws rest,
       )

@@ -1,18 +1,21 @@
--- The customer's demands, said of the judging calls; `proofs/Demands`, `proofs/MaskedLengths` and `proofs/OwnDeadline` prove them. "Any bytes, any vertex
--- number, any budget and any lent areas get an answer" is what the check of the calls says: they have no `requires`, and return.
+-- The customer's demands, said of the judging calls; `proofs/Demands`, `proofs/MaskedLengths`, `proofs/OwnDeadline` and `proofs/SlowerCradles` prove them.
+-- "Any bytes, any vertex number, any budget and any lent areas get an answer" is what the check of the calls says: they have no `requires`, and return.
 use mathlib.Core.Path.{_≡_}
 use Prim.Native.Nat.{ℕ, _-_, _*_, _≤_, _<_}
 use mathlib.Core.Option.{Option, none, some}
-use mathlib.Core.List.{List, [], _∷_}
-use lib.ListN.{length}
-use Rattle.meaning.specs.Table.{Table, taskAt, higher}
-use Rattle.meaning.specs.Text.{readable, unreadable, read}
+use mathlib.Core.Logic.{_⊎_}
+use mathlib.Core.List.{List, [], _∷_, List·Memᴰ}
+use lib.ListN.{length, drop, getD}
+use Rattle.meaning.specs.Bounds.{largestD, largestP, deskWork, deskWitness}
+use Rattle.meaning.specs.Table.{Task, Table, taskAt, higher}
+use Rattle.meaning.specs.Text.{readable, unreadable, read, word}
 use Rattle.meaning.specs.Paths.{Path, load, pathsOf}
 use Rattle.meaning.specs.Groups.{P}
-use Rattle.meaning.specs.Verdict.{cellsOf, Asked, plain, latest, B, ownE, deadline, topAt, C}
+use Rattle.meaning.specs.Verdict.{misses, refused, cellsOf, Asked, plain, latest, B, ownE, deadline, topAt, C}
 use Rattle.meaning.specs.Areas.{workNeed, zeroed, written}
 use Rattle.meaning.specs.Judge.{Row, refusal}
-use Rattle.meaning.specs.Whole.{uncounted, countsOf, verdicts}
+use Rattle.meaning.specs.Whole.{Place, places, uncounted, countsOf, verdicts}
+use Rattle.meaning.specs.Desk.{pathFrame, deskVerdict, frames}
 use Rattle.meaning.specs.Demands.{Overloadable, First, Worst, SameJobs, vertexTotal}
 use Rattle.kinds.specs.declared.RefusedAt.{RefusedAt}
 use Rattle.kinds.specs.declared.Verdict.{Verdict}
@@ -200,3 +203,27 @@ pub record FourCounts : Type 0 where
 pub record TableMasks : Type 0 where
   pub by-B : (x y : TableCall) (ts us : Table) → read (x .text) ≡ readable ts → read (y .text) ≡ readable us → SameJobs ts us → y .b ≡ x .b → y .work ≡ x .work
       → ((i : ℕ) → B us i ≡ B ts i) → (y .r ≡ x .r) × (y .work′ ≡ x .work′)
+
+-- ---- slower cradles
+
+-- "Raise d to 1,000 and p to 60,000", "The program lends 7,007 witness cells. Its work area stays": these numbers. That every table within them is written
+-- and read stands on the writer's page (`AsPlainTasks`, `fits`), and so does that no other is written (`only-sound`); that none is read is `ReadableSound`.
+--
+-- "A path may now have 1,000 vertices": no complete path has more, and one has so many. The witness cells are as many as any vertex needs: the desk refuses
+-- none by 11.
+--
+-- "so the program's path frame becomes 12 with a two-byte length, and frame 11 is no longer written": the desk's output has a line for each of `frames`. None
+-- is an 11; each path of a miss, one a higher task, has its 12 among them; and in each 12 the two bytes behind the task are the number of vertices that follow.
+pub record SlowerCradles : Type 0 where
+  pub numbers : (largestD ≡ 1000) × (largestP ≡ 60000) × (deskWitness ≡ 7007) × (deskWork ≡ 8192)
+  pub paths : (text : List ℕ) (ts : Table) → read text ≡ readable ts → (q : Place) → List·Memᴰ q (places ts)
+      → (k : Task) → List·Memᴰ k (higher ts (q .task)) → (w : Path) → List·Memᴰ w (pathsOf k (deadline ts (q .task) (q .vertex))) → length w ≤ largestD
+  pub reached : (text : List ℕ) × (ts : Table) × (read text ≡ readable ts) × (q : Place) × List·Memᴰ q (places ts)
+      × (k : Task) × List·Memᴰ k (higher ts (q .task)) × (w : Path) × List·Memᴰ w (pathsOf k (deadline ts (q .task) (q .vertex))) × (length w ≡ largestD)
+  pub desk-refuses : (text : List ℕ) (ts : Table) → read text ≡ readable ts → (q : Place) → List·Memᴰ q (places ts)
+      → (k n : ℕ) → deskVerdict ts q ≡ refused k n → (k ≡ 9) ⊎ (k ≡ 10)
+  pub never-11 : (text f : List ℕ) → List·Memᴰ f (frames text) → getD f 0 0 ≡ 17 → ⊥
+  pub shown : (text : List ℕ) (ts : Table) → read text ≡ readable ts → (q : Place) → List·Memᴰ q (places ts) → (c : ℕ) (ws : List Path)
+      → deskVerdict ts q ≡ misses c ws → (length ws ≡ q .task) × ((i : ℕ) → i < q .task → List·Memᴰ (pathFrame i (getD ws i [])) (frames text))
+  pub lengths : (text f : List ℕ) → List·Memᴰ f (frames text) → getD f 0 0 ≡ 18
+      → (getD f 2 0 < 256) × (getD f 3 0 < 256) × (word f 2 ≡ length (drop 4 f))

@@ -3,13 +3,15 @@ use mathlib.Core.Path.{_≡_}
 use Prim.Native.Nat.{ℕ, _≤_}
 use mathlib.Core.List.{List}
 use lib.ListN.{length}
+use Rattle.meaning.specs.Bounds.{longestOutput}
+use Rattle.meaning.specs.Desk.{output}
 use Rattle.meaning.specs.Areas.{Wrote}
 use Rattle.kinds.specs.declared.Verdict.{Verdict}
 use Rattle.judge.specs.declared.TableVerdict.{TableVerdict}
 use Rattle.kinds.specs.declared.Lateness.{Lateness}
 use Rattle.judge.specs.Judged.{Judged, LatestJudged}
 use Rattle.judge.specs.Whole.{TableJudged}
-use Rattle.judge.specs.Desk.{outputInto}
+use Rattle.judge.specs.Desk.{outputRoom, outputInto}
 
 -- Two results that satisfy the statement of a vertex's judging coincide, in the verdict and in every cell of both areas.
 abbrev pub Settled : Type 0
@@ -34,3 +36,11 @@ SettledOutput = (text out : List ℕ) (r s : ℕ) (out₁ out₂ : List ℕ)
 -- What is written fits the area that it is written into.
 abbrev pub OutputFits : Type 0
 OutputFits = (text : List ℕ) (n : ℕ) → length (outputInto text n) ≤ n
+
+-- An area of `longestOutput` bytes is never too short.
+abbrev pub RoomEnough : Type 0
+RoomEnough = (text : List ℕ) → outputRoom text ≤ longestOutput
+
+-- No output is empty: a length of 0 says that the area might be too short, and nothing else.
+abbrev pub SomeOutput : Type 0
+SomeOutput = (text : List ℕ) → 1 ≤ length (output text)

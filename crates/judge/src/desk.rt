@@ -1,5 +1,5 @@
-// "Lends 8,192 work cells and 1,407 witness cells, and uses budget 100,000. Output is frames [..] for each vertex, in rising order of task and then
-// vertex; after a miss, one frame a higher task [..]; last 1f and the four counts."
+// "Lends 8,192 work cells [..], and uses budget 100,000. Output is frames [..] for each vertex, in rising order of task and then vertex; after a miss, one
+// frame a higher task [..]; last 1f and the four counts." "The program lends 7,007 witness cells."
 use crate::vertex::judge_vertex;
 use bounds::DESK_BUDGET;
 use bounds::DESK_WORK;
@@ -14,13 +14,13 @@ use kinds::verdict_in;
 use table::Table;
 ghost use Prim.Native.Nat.{_≤_};
 ghost use lib.ListN.{length};
-ghost use Rattle.meaning.specs.Bounds.{longestOutput};
 ghost use Rattle.table.specs.Inner.{tableOf, Held};
 ghost use Rattle.meaning.specs.Areas.{Wrote};
+ghost use Rattle.judge.specs.Desk.{tableRoom};
 ghost use Rattle.judge.specs.Inner.{tableOutput};
 
 pub(crate) fn table_lines(out: &mut [u8], t: Table) -> usize
-    requires { ⌜ Held t × (longestOutput ≤ length (now out)) ⌝ }
+    requires { ⌜ Held t × (tableRoom (tableOf t) ≤ length (now out)) ⌝ }
     ensures { λ r. ⌜ Wrote (tableOutput (tableOf t)) (now (out .entry)) 0 (now (out .exit)) r ⌝ }
 {
     let mut work = [0u32; DESK_WORK];

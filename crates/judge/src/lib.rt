@@ -2,13 +2,16 @@
 // "Every public judging call takes the text itself, never a table record, and takes the reading apart first: a readable table goes on, anything else
 // returns at once."
 mod desk;
+mod room;
 mod vertex;
 mod whole;
 
 use crate::desk::table_lines;
+use crate::room::table_room;
 use crate::vertex::judge_vertex;
 use crate::whole::count_verdicts;
 use bounds::LONGEST_OUTPUT;
+use bounds::REFUSAL_LINE;
 use counts::Counts;
 use desk_frames::refusal_line;
 use kinds::Lateness;
@@ -23,15 +26,23 @@ use reader::read;
 use sheet::input_too_long;
 use sheet::no_such;
 use sheet::no_such_vertex;
+use table::Table;
 ghost use mathlib.Core.Path.{_≡_};
+ghost use mathlib.Core.List.{List};
 ghost use lib.ListN.{length};
-ghost use Rattle.meaning.specs.Bounds.{longestOutput};
+ghost use lib.Dec.{ltb};
+ghost use Rattle.meaning.specs.Lists.{pick};
+ghost use Rattle.meaning.specs.Bounds.{refusalLine, longestOutput};
+ghost use Rattle.meaning.specs.Text.{line};
+ghost use Rattle.meaning.specs.Desk.{refusalFrame};
+ghost use Rattle.kinds.specs.Numbers.{refusalNumber};
+ghost use Rattle.table.specs.Inner.{tableOf, Held};
 ghost use Rattle.meaning.specs.Areas.{Wrote};
 ghost use Rattle.judge.specs.Judged.{Judged, LatestJudged};
-ghost use Rattle.judge.specs.Inner.{TextJudged};
+ghost use Rattle.judge.specs.Inner.{TextJudged, tableOutput};
 ghost use Rattle.search.specs.Meant.{askedBy};
 ghost use Rattle.judge.specs.Whole.{TableJudged};
-ghost use Rattle.judge.specs.Desk.{noOutput, outputInto};
+ghost use Rattle.judge.specs.Desk.{noOutput, tableRoom, outputInto};
 
 // A table that is readable has its four counts.
 pub enum TableVerdict {
@@ -120,22 +131,40 @@ pub fn output_room() -> [u8; LONGEST_OUTPUT]
     [0; LONGEST_OUTPUT]
 }
 
-// The desk's whole output for an input, from the front of a lent area; gives its length. Nothing is written where an output might not fit.
+// Of a table that is readable; nothing, where the area might be too short.
+fn table_output(t: Table, out: &mut [u8]) -> usize
+    requires { ⌜ Held t ⌝ }
+    ensures { λ r. ⌜ Wrote (pick (ltb (length (now (out .entry))) (tableRoom (tableOf t))) List.[] (tableOutput (tableOf t))) (now (out .entry)) 0 (now (out .exit)) r ⌝ }
+{
+    if out.len() < table_room(t) {
+        return 0;
+    }
+    table_lines(out, t)
+}
+
+// Of a refused text or input, likewise.
+fn refusal_output(at: RefusedAt, out: &mut [u8]) -> usize
+    ensures { λ r. ⌜ Wrote (pick (ltb (length (now (out .entry))) refusalLine) List.[] (line (refusalFrame (refusalNumber (at .refusal)) (at .place)))) (now (out .entry)) 0 (now (out .exit)) r ⌝ }
+{
+    if out.len() < REFUSAL_LINE {
+        return 0;
+    }
+    refusal_line(out, 0, at)
+}
+
+// The desk's whole output for an input, from the front of a lent area; gives its length. Nothing is written where it might not fit.
 pub fn desk_output(text: &[u8], out: &mut [u8]) -> usize
     ensures { λ r. ⌜ Wrote (outputInto (now (text .entry)) (length (now (out .entry)))) (now (out .entry)) 0 (now (out .exit)) r ⌝ }
 {
-    if out.len() < LONGEST_OUTPUT {
-        return 0;
-    }
     if input_too_long(text.len()) {
         let refusal = Refusal::InputTooLong;
-        return refusal_line(out, 0, RefusedAt { refusal, place: 0 });
+        return refusal_output(RefusedAt { refusal, place: 0 }, out);
     }
     let reading = read(text);
     let status = reading.status;
     let Status::Refused(at) = status else {
         let table = reading.table;
-        return table_lines(out, table);
+        return table_output(table, out);
     };
-    refusal_line(out, 0, at)
+    refusal_output(at, out)
 }

@@ -1,36 +1,40 @@
 -- The path at a place, of all complete paths.
-use mathlib.Core.Path.{_≡_, refl, sym, ap, ap₂, subst, _∙_}
-use Prim.Native.Nat.{ℕ, _+_, _≤_, _<_, zero-le}
+use mathlib.Core.Path.{_≡_, refl, sym, ap, ap₂, _∙_}
+use Prim.Native.Nat.{ℕ, _+_, _-_, _≤_, _<_, zero-le}
 use native.Mathlib.Omega.{arith}
 use native.Mathlib.Decide.{decLt}
-use mathlib.Core.List.{List, [], _∷_}
-use lib.ListN.{length, getD, take, drop, replicate, length-map, length-replicate, List·getD-append}
-use lib.Seq.{sets, sets-eq, length-sets, take-at, getD-append-add}
+use mathlib.Core.List.{List, [], _∷_, _++_}
+use lib.ListN.{length, getD, drop, replicate, length-map, length-replicate, replicate-append-replicate, List·getD-append}
+use lib.Seq.{sets, drop-at, getD-append-add}
 use Rattle.meaning.specs.Bounds.{mostVertices, largestD}
+use Rattle.meaning.proofs.Wrote.{front-set}
+use Rattle.table.specs.Record.{padded}
+use Rattle.lister.specs.declared.Path.{Path}
 use Rattle.lister.specs.declared.PathNumber.{PathNumber}
 use Rattle.lister.specs.declared.place.Sought.{Sought}
 use Rattle.lister.specs.declared.place.Sought.the-variants.{Here, Behind}
 use Rattle.columns.specs.Columns.{SoundColumns}
 use Rattle.ways.specs.Ways.{ways, allWays, onBy, verticesBy, pathBy}
-use Rattle.lister.specs.Place.{Found}
+use Rattle.lister.specs.Place.{Found, pathRecord}
 use Rattle.ways.proofs.Taken.{way-short}
 use Rattle.ways.proofs.Ways.{all-ways-none, all-ways-more}
 use Rattle.lister.proofs.Places.{getD-onBy, not-both, same-length, same-place}
 
--- the path's vertices stand in the first n cells
-pub record CellsOf (w B : List ℕ) (n : ℕ) : Type 0 where
-  pub fits : n ≤ largestD
-  pub cells : length B ≡ largestD
-  pub front : take n B ≡ w
+-- a path stored into zeros is padded with them
+stored : (w : List ℕ) → length w ≤ largestD → sets (replicate largestD 0) 0 w ≡ padded largestD 0 w
+unfolding padded
+stored w h =
+    let n : largestD ≡ length w + (largestD - length w) = omega arith in
+    let zeros : replicate {A = ℕ} largestD 0 ≡ replicate (length w) 0 ++ replicate (largestD - length w) 0 =
+    ap (λ (k : ℕ). replicate k 0) n ∙ sym (replicate-append-replicate (length w) (largestD - length w) 0) in
+    front-set w (replicate largestD 0) (rw length-replicate h) ∙ ap (λ (l : List ℕ). w ++ l)
+    (ap (drop (length w)) zeros ∙ drop-at (replicate (length w) 0) (replicate (largestD - length w) 0) (length w) (length-replicate {A = ℕ} (length w) 0))
 
-cells-at : (w B : List ℕ) (n : ℕ) → B ≡ sets (replicate largestD 0) 0 w → n ≡ length w → length w ≤ largestD → CellsOf w B n
-cells-at w B n e q h =
-    let z : length (replicate {A = ℕ} largestD 0) ≡ largestD = length-replicate {A = ℕ} largestD 0 in
-    record {
-      fits = omega arith;
-      cells = ap length e ∙ length-sets (replicate {A = ℕ} largestD 0) 0 w ∙ z;
-      front = ap₂ take q (e ∙ sets-eq w (replicate largestD 0) 0 (omega arith)) ∙ take-at w (drop (0 + length w) (replicate largestD 0)) (length w) refl;
-    }
+-- so the cells that path_from leaves are the path's own
+made : (w B : List ℕ) (n : ℕ) → B ≡ sets (replicate largestD 0) 0 w → n ≡ length w → length w ≤ largestD
+    → _≡_ {A = Path} (record { vertices = B; len = n }) (pathRecord w)
+unfolding pathRecord
+made w B n e q h = ap₂ {C = Path} (λ (cells : List ℕ) (len : ℕ). record { vertices = cells; len = len }) (e ∙ stored w h) q
 
 pub record Passing (start to p : List ℕ) (n d i : ℕ) (cs : List ℕ) (left v : ℕ) : Type 0 where
   pub high : v ≤ n
@@ -65,7 +69,7 @@ module _ {start to p : List ℕ} {n d i : ℕ} {cs : List ℕ} {left v : ℕ} (g
 
   pub passing-found : SoundColumns start to p → n ≤ mostVertices → 0 < d → d ≤ largestD → v < n
       → (B : List ℕ) (s : Sought) (len : ℕ) → Found start to p v d 0 left cs B s → s ≡ Here len
-      → CellsOf (pathBy to (getD (allWays start to p d 0 n) i [])) B len
+      → _≡_ {A = Path} (record { vertices = B; len = len }) (pathRecord (pathBy to (getD (allWays start to p d 0 n) i [])))
   passing-found so hn hd ld h B s len f e = elim (decLt left (length (ways start to p v d))) [
     | no y ↦ absurd (not-both s e (f .miss (omega arith) .left))
     | yes y ↦
@@ -78,13 +82,11 @@ module _ {start to p : List ℕ} {n d i : ℕ} {cs : List ℕ} {left v : ℕ} (g
         let q : 0 + 1 + length H ≡ length (verticesBy to v H) = omega (arith, length-map H (λ (k : ℕ). getD to k 0)) in
         let l = way-short start to p so v d left (omega arith) hd y in
         let z : length (verticesBy to v H) ≤ largestD = omega arith in
-        cells-at _ B len (m .cells ∙ ap₂ (λ (a b : List ℕ). sets a 0 (pathBy to b)) (g .cells) (sym w))
-        (same-length s e (m .end) ∙ q ∙ ap (λ (b : List ℕ). length (pathBy to b)) (sym w))
-        (subst (λ (b : List ℕ). length (pathBy to b) ≤ largestD) (sym w) z)
+        made (verticesBy to v H) B len (m .cells ∙ ap (λ (a : List ℕ). sets a 0 (verticesBy to v H)) (g .cells)) (same-length s e (m .end) ∙ q) z
+        ∙ ap (λ (b : List ℕ). pathRecord (pathBy to b)) (sym w)
   ]
 
-  pub passing-past : n ≤ v → CellsOf (pathBy to (getD (allWays start to p d 0 n) i [])) cs 0
+  pub passing-past : n ≤ v → _≡_ {A = Path} (record { vertices = cs; len = 0 }) (pathRecord (pathBy to (getD (allWays start to p d 0 n) i [])))
   passing-past h =
       let w : getD (allWays start to p d 0 n) i [] ≡ [] = sym (g .place) ∙ ap (λ (b : List (List ℕ)). getD b left []) (all-ways-none start to p d v n h) in
-      cells-at _ cs 0 (g .cells ∙ ap (λ (b : List ℕ). sets (replicate largestD 0) 0 (pathBy to b)) (sym w)) (ap (λ (b : List ℕ). length (pathBy to b)) (sym w))
-      (subst (λ (b : List ℕ). length (pathBy to b) ≤ largestD) (sym w) zero-le)
+      made [] cs 0 (g .cells) refl zero-le ∙ ap (λ (b : List ℕ). pathRecord (pathBy to b)) (sym w)

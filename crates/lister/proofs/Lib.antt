@@ -1,4 +1,3 @@
 pub mod CountLoop
 pub mod Places
 pub mod AllPlaces
-pub mod ByValue

@@ -1,12 +1,11 @@
 -- The path at a place in the order, by value.
 use mathlib.Core.Path.{_≡_}
 use Prim.Native.Nat.{ℕ, _+_, _-_, _≤_, _<_}
-use mathlib.Core.List.{List, [], map}
+use mathlib.Core.List.{List, []}
 use lib.ListN.{length, getD}
 use lib.Seq.{sets}
 use Rattle.meaning.specs.Bounds.{largestD}
 use Rattle.table.specs.Record.{padded}
-use Rattle.table.specs.Inner.{vertexNumber}
 use Rattle.lister.specs.declared.Path.{Path}
 use Rattle.lister.specs.declared.place.Sought.{Sought}
 use Rattle.lister.specs.declared.place.Sought.the-variants.{Here, Behind}
@@ -15,7 +14,7 @@ use Rattle.ways.specs.Ways.{ways, verticesBy}
 -- a path in an array of zeros, with its length
 unfoldable pub pathRecord : List ℕ → Path
 unfolding padded
-pathRecord w = record { vertices = padded largestD (vertexNumber 0) (map vertexNumber w); len = length w }
+pathRecord w = record { vertices = padded largestD 0 w; len = length w }
 
 -- ---- what `path_from` gives
 

@@ -1,4 +1,4 @@
-// "A path kept by value in an array of 200 zeros with a length, rebuilt from its place in the order."
+// "A path kept by value in an array of [..] zeros with a length, rebuilt from its place in the order." It has 1,000 of them since wish 7.
 use crate::Path;
 use crate::PathNumber;
 use bounds::LARGEST_D;
@@ -10,7 +10,7 @@ use kinds::VertexNumber;
 ghost use mathlib.Core.Path.{_≡_};
 ghost use Prim.Native.Nat.{_+_, _≤_, _<_};
 ghost use mathlib.Core.List.{List};
-ghost use lib.ListN.{length, take, getD};
+ghost use lib.ListN.{getD};
 ghost use Rattle.meaning.specs.Bounds.{mostVertices, largestD};
 ghost use Rattle.columns.specs.Columns.{SoundColumns};
 ghost use Rattle.ways.specs.Ways.{mostCounted, allWays, pathBy};
@@ -69,23 +69,6 @@ fn path_from(
     Sought::Behind(PathNumber(i.0 - 1))
 }
 
-// The first cells as a path, with zeros behind it.
-fn by_value(cells: &[u8; LARGEST_D], len: usize) -> Path
-    requires { ⌜ (len ≤ largestD) × (length (now cells) ≡ largestD) ⌝ }
-    ensures { λ r. ⌜ r ≡ pathRecord (take len (now (cells .entry))) ⌝ }
-{
-    let mut vertices = [VertexNumber(0); LARGEST_D];
-    let mut i: usize = 0;
-    while i < len {
-        vertices[i] = VertexNumber(cells[i]);
-        i += 1;
-    }
-    Path {
-        vertices: vertices,
-        len: len,
-    }
-}
-
 // The complete path of place i for horizon d; of length 0 where there is none.
 pub fn path_all(
     start: &[u8; MOST_VERTICES + 1],
@@ -105,10 +88,16 @@ pub fn path_all(
     while (v.0 as usize) < n {
         let s = path_from(start, to, p, &mut cells, v, d, 0, left);
         match s {
-            Sought::Here(len) => return by_value(&cells, len),
+            Sought::Here(len) => return Path {
+                vertices: cells,
+                len: len,
+            },
             Sought::Behind(place) => left = place,
         }
         v = VertexNumber(v.0 + 1);
     }
-    by_value(&cells, 0)
+    Path {
+        vertices: cells,
+        len: 0,
+    }
 }

@@ -1,4 +1,4 @@
-pub mod RowLoads
+pub mod Fronts
 pub mod PutRows
 pub mod AllRows
 pub mod FollowingRows

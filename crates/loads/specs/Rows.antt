@@ -2,20 +2,19 @@
 use mathlib.Core.Path.{_≡_}
 use Prim.Native.Nat.{ℕ, _+_, _-_, _*_, _≤_}
 use mathlib.Core.List.{List, [], _∷_, _++_, map}
-use lib.ListN.{length, take, replicate}
-use lib.Seq.{sets}
-use Rattle.meaning.specs.Bounds.{largestD}
+use lib.ListN.{length, take}
+use lib.Seq.{sets, slice}
 use Rattle.ways.specs.Ways.{mostCounted, ways}
 use Rattle.ways.specs.Runs.{runs}
 
--- a row's loads at t from 1 on: that at t is in cell t
-unfoldable pub loadsIn : List ℕ → List ℕ
-loadsIn [] = []
-loadsIn (x ∷ xs) = xs
+-- the row from `to` on is the one from `row` on, or is behind its first n cells
+abbrev pub Apart : ℕ → ℕ → ℕ → Type 0
+Apart row n to = (to ≡ row → ⊥) → row + n ≤ to
 
--- the loads from a up to b have become x
-pub record Run (row : List ℕ) (a b x : ℕ) (after : List ℕ) : Type 0 where
-  pub cells : after ≡ sets row a (replicate (b - a) x)
+-- the n cells from `row` on stand from `to` on as well, and they and the cells before them are as they were
+pub record Copied (P : List ℕ) (row n to : ℕ) (Q : List ℕ) : Type 0 where
+  pub cells : Q ≡ sets P to (slice row (row + n) P)
+  pub kept : take (row + n) Q ≡ take (row + n) P
 
 -- the rows of the ways on from v, behind the prefix's loads
 unfoldable pub rowsBehind : List ℕ → List ℕ → List ℕ → List ℕ → ℕ → ℕ → ℕ → List (List ℕ) → List (List ℕ)
@@ -31,9 +30,12 @@ pub record Room (d n len : ℕ) : Type 0 where
   pub few : n ≤ mostCounted
   pub fits : 2 * n * d ≤ len + d
 
--- what `rows_from` leaves: the next place, the rows, and the prefix's loads as they were
-pub record RowsPut (e start to p : List ℕ) (d v span below i : ℕ) (P row Q qrow : List ℕ) (r : ℕ) : Type 0 where
+-- the first n cells of row 2i
+abbrev pub frontOf : ℕ → ℕ → ℕ → List ℕ → List ℕ
+frontOf d i n P = slice (2 * i * d) (2 * i * d + n) P
+
+-- what `rows_from` leaves: the next place, and the rows, where the prefix's loads stood at the first row's front and are as they were
+pub record RowsPut (e start to p : List ℕ) (d v span below i : ℕ) (P Q : List ℕ) (r : ℕ) : Type 0 where
   pub next : r ≡ i + length (ways start to p v (d - span))
-  pub rows : Q ≡ putRows d i (rowsBehind e to p (take span row) (d - span) below v (ways start to p v (d - span))) P
-  pub prefix : take span qrow ≡ take span row
-  pub cells : length qrow ≡ largestD
+  pub rows : Q ≡ putRows d i (rowsBehind e to p (frontOf d i span P) (d - span) below v (ways start to p v (d - span))) P
+  pub kept : take (2 * i * d + span) Q ≡ take (2 * i * d + span) P

@@ -1,35 +1,36 @@
-// The loads of a row, that at t in cell t, and a row's loads in a stretch.
-use bounds::LARGEST_D;
+// The loads of a row in a stretch, that at t in the row's cell t - 1.
 use kinds::Ticks;
 ghost use mathlib.Core.Path.{_≡_};
 ghost use Prim.Native.Nat.{_+_, _≤_};
-ghost use lib.ListN.{length, take};
+ghost use lib.ListN.{length, replicate};
 ghost use lib.Seq.{sets};
-ghost use Rattle.meaning.specs.Bounds.{largestD};
-ghost use Rattle.loads.specs.Rows.{loadsIn, Run};
+ghost use Rattle.loads.specs.Rows.{Apart, Copied};
 
-// From a release at span a up to the next, at span b, the load is x: at t above a, up to b.
-pub(crate) fn fill_run(row: &mut [u32; LARGEST_D + 1], a: Ticks, b: Ticks, x: u32)
-    requires { ⌜ (a .0 ≤ b .0) × (b .0 ≤ largestD) ⌝ }
-    ensures { λ _. ⌜ Run (loadsIn (now (row .entry))) (a .0) (b .0) x (loadsIn (now (row .exit))) ⌝ }
+// The load is x at each of the n ticks behind a release, of which the first has the cell `at`: that at the t-th is t - 1 cells on.
+pub(crate) fn fill_run(part: &mut [u32], at: usize, n: Ticks, x: u32)
+    requires { ⌜ at + n .0 ≤ length (now part) ⌝ }
+    ensures { λ _. ⌜ now (part .exit) ≡ sets (now (part .entry)) at (replicate (n .0) x) ⌝ }
 {
-    let end = b.0 as usize;
-    let mut i = a.0 as usize;
-    while i < end {
-        row[i + 1] = x;
-        i += 1;
+    let end = n.0 as usize;
+    let mut t: usize = 1;
+    while t <= end {
+        part[at + t - 1] = x;
+        t += 1;
     }
 }
 
-// The loads at t from 1 to d go to the cells of the part from a on.
-pub(crate) fn copy_row(part: &mut [u32], a: usize, row: &[u32; LARGEST_D + 1], d: Ticks)
-    requires { ⌜ (a + d .0 ≤ length (now part)) × (d .0 ≤ largestD) × (length (loadsIn (now row)) ≡ largestD) ⌝ }
-    ensures { λ _. ⌜ now (part .exit) ≡ sets (now (part .entry)) a (take (d .0) (loadsIn (now (row .entry)))) ⌝ }
+// The loads at t up to `span` of the row from `row` on go to the row from `to` on, which is behind them or is the same.
+pub(crate) fn copy_front(part: &mut [u32], row: usize, to: usize, span: Ticks)
+    requires { ⌜ Apart row (span .0) to × (to + span .0 ≤ length (now part)) ⌝ }
+    ensures { λ _. ⌜ Copied (now (part .entry)) row (span .0) to (now (part .exit)) ⌝ }
 {
-    let end = d.0 as usize;
-    let mut t: usize = 0;
-    while t < end {
-        part[a + t] = row[t + 1];
-        t += 1;
+    if to == row {
+        return;
+    }
+    let end = span.0 as usize;
+    let mut i: usize = 0;
+    while i < end {
+        part[to + i] = part[row + i];
+        i += 1;
     }
 }

@@ -44,5 +44,7 @@ pub mod OwnDeadline
 pub mod Counts
 pub mod MissPaths
 pub mod Whole
+pub mod DeskFrames
+pub mod LongPath
 pub mod Demands
 pub mod Bench

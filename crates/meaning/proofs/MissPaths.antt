@@ -12,7 +12,7 @@ use Rattle.meaning.specs.Table.{Task, Table, noTask, noVertex, taskAt, v
 use Rattle.meaning.specs.Paths.{Path, between, linked, legal}
 use Rattle.meaning.specs.Verdict.{misses, Asked, deadline, C}
 use Rattle.meaning.specs.Judge.{judged}
-use Rattle.meaning.specs.Sound.{SoundTask, SoundTable, AllSound}
+use Rattle.meaning.specs.Sound.{SoundVertex, SoundTask, SoundTable, AllSound}
 use Rattle.meaning.specs.Demands.{First, Completes}
 use Rattle.meaning.proofs.Lists.{both-left, both-right, mem-getD, those-mem}
 use Rattle.meaning.proofs.Edges.{link-edge}
@@ -73,9 +73,11 @@ module _ (ts : Table) (s : SoundTable ts) (i v : ℕ) (p : i < length ts) (u : v
   pub miss-count : length ws ≡ i
   miss-count = completes-count (deadline ts i v) (higher ts i) ws (first .complete) ∙ length-take-le i ts (omega arith)
 
-  pub miss-fits : (w : Path) → List·Memᴰ w ws → Fits largestD w
-  miss-fits w m =
-      let k = taskAt ts i in
-      let own = s .eachTask k (mem-getD noTask ts i p) .eachVertex (vertexAt k v) (mem-getD noVertex (k .vertices) v u) in
-      let fits = completes-fit (deadline ts i v) (higher ts i) ws (sound-higher ts i s) (own .someD) (first .complete) w m in
-      record { short = le-trans (fits .short) (own .mostD); vertices = fits .vertices }
+  own : SoundVertex (vertexAt (taskAt ts i) v)
+  own = let k = taskAt ts i in s .eachTask k (mem-getD noTask ts i p) .eachVertex (vertexAt k v) (mem-getD noVertex (k .vertices) v u)
+
+  pub miss-fits : (w : Path) → List·Memᴰ w ws → Fits (deadline ts i v) w
+  miss-fits w m = completes-fit (deadline ts i v) (higher ts i) ws (sound-higher ts i s) (own .someD) (first .complete) w m
+
+  pub miss-short : (w : Path) → List·Memᴰ w ws → length w ≤ largestD
+  miss-short w m = le-trans (miss-fits w m .short) (own .mostD)

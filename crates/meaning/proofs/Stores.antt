@@ -5,8 +5,8 @@ use native.Mathlib.Numerals.{add-one}
 use native.Mathlib.Nat.{zero-add}
 use native.Mathlib.Omega.{arith}
 use mathlib.Core.List.{List, [], _∷_, _++_}
-use lib.ListN.{length, getD, take, drop, set, replicate, length-append, length-replicate, replicate-append-replicate}
-use lib.Seq.{sets, sets-eq, length-take-le, take-suc, take-at, take-take, set-comm, getD-set-other, drop-set-add, take-set-le}
+use lib.ListN.{length, getD, take, drop, set, replicate, length-replicate, replicate-append-replicate}
+use lib.Seq.{sets, length-take-le, take-suc, set-comm, getD-set-other, drop-set-add, take-set-le}
 use Rattle.meaning.proofs.Wrote.{sets-append}
 
 sets-snoc : (vs l : List ℕ) (i v : ℕ) → sets l i (vs ++ (v ∷ [])) ≡ set (sets l i vs) (i + length vs) v
@@ -31,25 +31,6 @@ copy-more l m s at t h e =
 
 pub col-more : (Z m s : List ℕ) (t x : ℕ) → t < length s → m ≡ sets Z 0 (take t s) → x ≡ getD s t 0 → set m t x ≡ sets Z 0 (take (t + 1) s)
 col-more Z m s t x h e q = ap₂ (λ (a b : ℕ). set m a b) (sym (zero-add t)) q ∙ copy-more Z m s 0 t h e
-
--- ---- a run of one number
-
-pub run-none : (l : List ℕ) (a i x : ℕ) → i ≡ a → l ≡ sets l a (replicate (i - a) x)
-run-none l a i x h = let z : i - a ≡ 0 = omega arith in rw z
-
--- what stands before its end, and before it
-pub run-take : (l m : List ℕ) (a b x : ℕ) → a ≤ b → b ≤ length l → m ≡ sets l a (replicate (b - a) x) → take b m ≡ take a l ++ replicate (b - a) x
-run-take l m a b x h g e =
-    let r : length (replicate (b - a) x) ≡ b - a = length-replicate (b - a) x in
-    let t : length (take a l) ≡ a = length-take-le a l (omega arith) in
-    let z : length (take a l ++ replicate (b - a) x) ≡ b = omega (arith, length-append (take a l) (replicate (b - a) x)) in
-    ap (take b) (e ∙ sets-eq (replicate (b - a) x) l a (omega arith))
-    ∙ take-at (take a l ++ replicate (b - a) x) (drop (a + length (replicate (b - a) x)) l) b z
-
-pub run-keeps : (l m : List ℕ) (a b x : ℕ) → a ≤ b → b ≤ length l → take b m ≡ take a l ++ replicate (b - a) x → take a m ≡ take a l
-run-keeps l m a b x h g e =
-    let t : length (take a l) ≡ a = length-take-le a l (omega arith) in
-    sym (take-take a b m h) ∙ ap (take a) e ∙ take-at (take a l) (replicate (b - a) x) a t
 
 -- ---- cells outside the stores
 

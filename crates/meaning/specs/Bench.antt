@@ -1,11 +1,11 @@
--- The bench examples R1 to R8, tables of which the latest finish is asked, masked lengths, tables that are written, rings and gear tables, and jobs longer
--- than their own deadlines, as one table under one claim; `proofs/Bench` proves it.
+-- The bench examples R1 to R8, tables of which the latest finish is asked, masked lengths, tables that are written, rings and gear tables, jobs longer than
+-- their own deadlines, and slower cradles, as one table under one claim; `proofs/Bench` proves it.
 use Prim.Native.Nat.{ℕ, _-_, _*_}
 use Prim.Native.Char.{code}
 use Prim.Native.String.{String, [] as []ˢ, _∷_ as _∷ˢ_}
 use mathlib.Core.Bool.{Bool, true, false, _&&_}
 use mathlib.Core.List.{List, [], _∷_, _++_}
-use lib.ListN.{replicate}
+use lib.ListN.{replicate, take}
 use lib.Dec.{T, eqb}
 use Rattle.meaning.specs.Lists.{all, gather}
 use Rattle.meaning.specs.Bounds.{deskBudget, deskWork, deskWitness}
@@ -13,9 +13,9 @@ use Rattle.meaning.specs.Table.{Task, Table, vertex, edge, task}
 use Rattle.meaning.specs.Paths.{completePaths}
 use Rattle.meaning.specs.Groups.{P}
 use Rattle.meaning.specs.Verdict.{Verdict, numbers, cellsOf, missPaths, lateNumbers, shownPaths, plain, latest, topAt, worstAt, latestPaths}
-use Rattle.meaning.specs.Text.{read, tasksOf, checked}
+use Rattle.meaning.specs.Text.{line, read, tasksOf, checked}
 use Rattle.meaning.specs.Judge.{judged}
-use Rattle.meaning.specs.Desk.{output}
+use Rattle.meaning.specs.Desk.{pathFrame, output}
 use Rattle.meaning.specs.Writing.{textOf, writing, writingNumbers, frontOf}
 
 -- ---- what the definitions give, beside what the document says, or its rules by hand
@@ -77,7 +77,7 @@ abbrev pub r1In : String
 r1In = "010101\n0200020005\n0300000005\n010101\n0200020007\n0300000007\n010101\n0200020006\n0300000007\n00\n"
 
 abbrev pub r1Out : String
-r1Out = "1000000000000001\n1001000000000001\n1002000100000001\n1100020000\n11010100\n1f02010000\n"
+r1Out = "1000000000000001\n1001000000000001\n1002000100000001\n120000020000\n1201000100\n1f02010000\n"
 
 -- R2's frames, without the end
 abbrev pub r2Frames : String
@@ -99,10 +99,10 @@ checkOf text = checked (read (bytes text))
 
 -- the desk's output, where R2's vertex misses: with a task below it, and with one above it
 abbrev pub missBelow : String
-missBelow = "1000000000000001\n1001000000000001\n1002000100000001\n1100020000\n11010100\n1003000000000001\n1f03010000\n"
+missBelow = "1000000000000001\n1001000000000001\n1002000100000001\n120000020000\n1201000100\n1003000000000001\n1f03010000\n"
 
 abbrev pub missAbove : String
-missAbove = "1000000000000001\n1001000000000001\n1002000000000001\n1003000100000001\n11000100\n1101020000\n11020100\n1f03010000\n"
+missAbove = "1000000000000001\n1001000000000001\n1002000000000001\n1003000100000001\n1200000100\n120100020000\n1202000100\n1f03010000\n"
 
 -- each path with its length before it
 abbrev pub pathList : Task → ℕ → List ℕ
@@ -208,7 +208,7 @@ examples =
     ∷ (lateWith deskBudget (lone 2 9 ∷ masking 3 3 9 ∷ masking 2 2 9 ∷ []) 0 gives (0 ∷ 1 ∷ 0 ∷ 5 ∷ []))
     ∷ (lateWith deskBudget (lone 2 9 ∷ masking 2 2 9 ∷ masking 3 3 9 ∷ []) 0 gives (0 ∷ 1 ∷ 0 ∷ 5 ∷ []))
     ∷ (lateWith deskBudget (lone 2 9 ∷ masking 3 3 9 ∷ masking 2 2 9 ∷ []) 1 gives (0 ∷ 1 ∷ 2 ∷ 7 ∷ 1 ∷ 0 ∷ []))
-    -- 04 with 0, with 1,001, and with 1,000, which no e of a readable table covers; with 200 one does, with 201 none
+    -- 04 with 0, with 1,001, and with an m above, at and one above the largest e
     ∷ (checkOf "0401000000\n0200010009\n00\n" gives (3 ∷ 1 ∷ []))
     ∷ (checkOf "04010003e9\n0203e80009\n00\n" gives (3 ∷ 1 ∷ []))
     ∷ (checkOf "04010003e8\n0200c800c8\n00\n" gives (3 ∷ 2 ∷ []))
@@ -268,10 +268,10 @@ examples =
     ∷ (checkOf "0701\n06000000090001\n00\n" gives (3 ∷ 2 ∷ []))
     ∷ (checkOf "0501\n0603e900010001\n00\n" gives (3 ∷ 2 ∷ []))
     ∷ (checkOf "0501\n06000100000001\n00\n" gives (3 ∷ 2 ∷ []))
-    ∷ (checkOf "0701\n06000100c900c8\n00\n" gives (3 ∷ 2 ∷ []))
+    ∷ (checkOf "0701\n06000103e903e8\n00\n" gives (3 ∷ 2 ∷ []))
     ∷ (checkOf "0501\n06000100010000\n00\n" gives (3 ∷ 2 ∷ []))
-    ∷ (checkOf "0701\n060001000103e9\n00\n" gives (3 ∷ 2 ∷ []))
-    ∷ (checkOf "0501\n0600c800c803e8\n00\n" gives (0 ∷ 0 ∷ []))
+    ∷ (checkOf "0701\n0600010001ea61\n00\n" gives (3 ∷ 2 ∷ []))
+    ∷ (checkOf "0501\n0603e803e8ea60\n00\n" gives (0 ∷ 0 ∷ []))
     -- then d above p: its own p, not the next one's
     ∷ (checkOf "0502\n06000100050004\n06000100030009\n00\n" gives (4 ∷ 2 ∷ []))
     ∷ (checkOf "0502\n06000100050005\n06000100030003\n00\n" gives (0 ∷ 0 ∷ []))
@@ -303,7 +303,7 @@ examples =
     ∷ (checkOf "010100\n0203e800c8\n00\n" gives (13 ∷ 2 ∷ []))
     ∷ (checkOf "010100\n0203e900c8\n00\n" gives (3 ∷ 2 ∷ []))
     ∷ (checkOf "010100\n0200010000\n00\n" gives (3 ∷ 2 ∷ []))
-    ∷ (checkOf "010100\n0200ca00c9\n00\n" gives (3 ∷ 2 ∷ []))
+    ∷ (checkOf "010100\n0203ea03e9\n00\n" gives (3 ∷ 2 ∷ []))
     ∷ (writtenInto 0 (lone 5 5 ∷ []) gives (10 ∷ 21 ∷ []))
     ∷ (writtenInto 0 (lone 1000 200 ∷ []) gives (13 ∷ 2 ∷ []))
     ∷ (writtenInto 0 (lone 1001 200 ∷ []) gives (3 ∷ 2 ∷ []))
@@ -329,7 +329,7 @@ examples =
     ∷ (checkOf "0501\n06000500050005\n00\n" gives (0 ∷ 0 ∷ []))
     ∷ (checkOf "0501\n06000600050009\n00\n" gives (13 ∷ 2 ∷ []))
     ∷ (checkOf "0701\n06000600050000\n00\n" gives (3 ∷ 2 ∷ []))
-    ∷ (checkOf "0501\n060006000503e9\n00\n" gives (3 ∷ 2 ∷ []))
+    ∷ (checkOf "0501\n0600060005ea61\n00\n" gives (3 ∷ 2 ∷ []))
     ∷ (checkOf "0702\n06000500050005\n06000600050004\n00\n" gives (13 ∷ 3 ∷ []))
     ∷ (checkOf "0502\n06000600050005\n06000200020001\n00\n" gives (13 ∷ 2 ∷ []))
     ∷ (checkOf "0502\n06000200020001\n06000600050005\n00\n" gives (4 ∷ 2 ∷ []))
@@ -338,6 +338,34 @@ examples =
     ∷ (lateWith deskBudget (lone 2 2 ∷ masking 1 1 9 ∷ []) 0 gives (1 ∷ 1 ∷ 0 ∷ []))
     ∷ (writtenInto 0 (lone 2 2 ∷ masking 1 1 9 ∷ []) gives (10 ∷ 43 ∷ []))
     ∷ (deskOf (bytes "0401000002\n0200020002\n") gives (bytes "1000000000000001\n1f01000000\n"))
+    -- slower cradles: d up to 1,000 and p up to 60,000, read and written; e and m keep their bounds
+    ∷ (checkOf "010101\n0203e803e8\n030000ea60\n00\n" gives (0 ∷ 0 ∷ []))
+    ∷ (checkOf "010100\n02000103e9\n00\n" gives (3 ∷ 2 ∷ []))
+    ∷ (checkOf "010101\n0200010001\n030000ea61\n00\n" gives (3 ∷ 3 ∷ []))
+    ∷ (checkOf "04010003e8\n0203e803e8\n00\n" gives (0 ∷ 0 ∷ []))
+    ∷ (checkOf "04010003e8\n0203e703e8\n00\n" gives (3 ∷ 2 ∷ []))
+    ∷ (writtenInto 99 (selfEdge 1000 1000 60000 ∷ []) gives (0 ∷ 32 ∷ bytes "010101\n0203e803e8\n030000ea60\n00\n"))
+    ∷ (writtenInto 0 (lone 1 1001 ∷ []) gives (3 ∷ 2 ∷ []))
+    ∷ (writtenInto 0 (selfEdge 1 1 60001 ∷ []) gives (3 ∷ 3 ∷ []))
+    ∷ (checkOf "010101\n0203e803e8\n03000003e7\n00\n" gives (4 ∷ 3 ∷ []))
+    -- a byte of p that is no digit
+    ∷ (checkOf "010101\n0200010001\n030000ea6g\n00\n" gives (1 ∷ 3 ∷ []))
+    ∷ (checkOf "010101\n0200010001\n030000Ea60\n00\n" gives (1 ∷ 3 ∷ []))
+    -- paths of 1,000 vertices and of one, with p 1 and 60,000; a length that takes two bytes
+    ∷ (pathList (selfEdge 1 1 1) 1000 gives (1000 ∷ replicate 1000 0))
+    ∷ (pathList (selfEdge 1 1 60000) 1000 gives (1 ∷ 0 ∷ []))
+    ∷ (take 10 (line (pathFrame 3 (replicate 258 0))) gives (bytes "1203010200"))
+    -- finishes and misses late in a long deadline: four releases of 249 ticks and 4 of its own work are 1,000, with 5 or with releases of 250 too many
+    ∷ (lateWith deskBudget (selfEdge 249 250 250 ∷ lone 4 1000 ∷ []) 1 gives (0 ∷ 1 ∷ 5 ∷ 1000 ∷ 4 ∷ 0 ∷ 0 ∷ 0 ∷ 0 ∷ []))
+    ∷ (lateWith deskBudget (selfEdge 249 250 250 ∷ lone 5 1000 ∷ []) 1 gives (1 ∷ 1 ∷ 5 ∷ 4 ∷ 0 ∷ 0 ∷ 0 ∷ 0 ∷ []))
+    ∷ (deskOf (bytes "010101\n0200fa00fa\n03000000fa\n010100\n02000103e8\n")
+    gives (bytes "1000000000000001\n1001000100000001\n1200000400000000\n1f01010000\n"))
+    -- a path of 1,000 vertices needs 1,000 work cells, and seven tasks above need 7 x 1,001 witness cells, as many as the desk lends
+    ∷ (shown (judged plain (selfEdge 1 1 1 ∷ lone 1 1000 ∷ []) 1 0 deskBudget 999 deskWitness) gives (3 ∷ 10 ∷ 1000 ∷ []))
+    ∷ (shown (judged plain (replicate 8 (lone 1 1000)) 7 0 deskBudget deskWork 7006) gives (3 ∷ 11 ∷ 7007 ∷ []))
+    ∷ (judgedWith deskBudget (replicate 8 (lone 1 1000)) 7 gives (0 ∷ 1 ∷ []))
+    -- "Its work area stays, so refusal 10 is expected on large tables": three tasks of two paths need 3 x 3 x 1,000 cells
+    ∷ (judgedWith deskBudget (replicate 3 (task 0 (replicate 2 (vertex 1 1)) []) ++ (lone 1 1000 ∷ [])) 3 gives (3 ∷ 10 ∷ 9000 ∷ []))
     ∷ []
 
 -- the claim

@@ -1,5 +1,5 @@
--- The bounds that document 01 and wish 3 set on tables, judging and the desk program, each once, and what follows from them. The numbers of frames and refusals
--- stand where these are defined.
+-- The bounds that document 01 and wishes 3 and 7 set on tables, judging and the desk program, each once, and what follows from them. The numbers of frames
+-- and refusals stand where these are defined.
 use Prim.Native.Nat.{ℕ, _+_, _-_, _*_}
 
 -- ---- a table
@@ -13,16 +13,16 @@ mostVertices = 12
 abbrev pub mostEdges : ℕ
 mostEdges = 32
 
--- the largest e, d, p and m; the least of each is 1, and a task without a masked length has m = 0. Since e is at most d and m at most some e, no e and no m of
--- a readable table is above the largest d
+-- the largest e, d, p and m; the least of each is 1, and a task without a masked length has m = 0. "Raise d to 1,000 and p to 60,000; e and m keep their
+-- bounds." (wish 7)
 abbrev pub largestE : ℕ
 largestE = 1000
 
 abbrev pub largestD : ℕ
-largestD = 200
+largestD = 1000
 
 abbrev pub largestP : ℕ
-largestP = 1000
+largestP = 60000
 
 abbrev pub largestM : ℕ
 largestM = 1000
@@ -66,10 +66,18 @@ verdictLine = lineLength 8
 abbrev pub countsLine : ℕ
 countsLine = lineLength 5
 
--- a vertex's verdict, and for each higher task the longest path: 11, task, length, vertices
-abbrev pub longestVertex : ℕ
-longestVertex = verdictLine + mostHigher * lineLength (3 + largestD)
+-- 1e, number, line in 2 bytes
+abbrev pub refusalLine : ℕ
+refusalLine = lineLength 4
 
--- every vertex, then the counts
+-- 12, task, length in 2 bytes and n vertices
+abbrev pub pathLine : ℕ → ℕ
+pathLine n = lineLength (4 + n)
+
+-- a vertex's verdict, and for each higher task the longest path
+abbrev pub longestVertex : ℕ
+longestVertex = verdictLine + mostHigher * pathLine largestD
+
+-- room for any output: as if every vertex had all the tasks above it, then the counts
 abbrev pub longestOutput : ℕ
 longestOutput = mostTasks * mostVertices * longestVertex + countsLine

@@ -28,9 +28,9 @@ four n = two (n / 65536) ++ two n
 abbrev pub verdictFrame : Place → ℕ → ℕ → List ℕ
 verdictFrame q kind n = 16 ∷ q .task ∷ q .vertex ∷ kind ∷ four n
 
--- 11, task, length, vertices
+-- 12, task, length in 2 bytes, vertices: "the program's path frame becomes 12 with a two-byte length" (wish 7)
 abbrev pub pathFrame : ℕ → Path → List ℕ
-pathFrame i w = 17 ∷ i ∷ length w ∷ w
+pathFrame i w = 18 ∷ i ∷ two (length w) ++ w
 
 -- one a higher task, from task i on
 abbrev pub pathFrames : ℕ → List Path → List (List ℕ)

@@ -1,5 +1,5 @@
 // "For a vertex with deadline d, a path is complete when its span is below d and each edge out of its last vertex, if any, would make the span d or
-// more. Such a path has at most 200 vertices. Complete paths are ordered as lists of vertex numbers, first difference first."
+// more. [..] Complete paths are ordered as lists of vertex numbers, first difference first." "A path may now have 1,000 vertices".
 // "Its load at t, for t at least 1, is the largest total e over its prefixes with span strictly below t."
 //
 // How many complete paths a task has for a horizon, the one at a place of the order, and the loads of them all.

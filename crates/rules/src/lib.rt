@@ -1,6 +1,6 @@
-// "Bounds: vertices 1 to 12, edges 0 to 32, e 1 to 1,000, d 1 to 200, p 1 to 1,000, and for each edge d of its starting vertex is at most p"; "its
-// edges in strictly rising order of (from, to)"; "m (2 bytes, 1 to 1,000)", which "may not exceed its task's largest e"; "a job longer than its own
-// deadline is a typing slip".
+// "Bounds: vertices 1 to 12, edges 0 to 32, e 1 to 1,000, [..] and for each edge d of its starting vertex is at most p"; "Raise d to 1,000 and p to
+// 60,000"; "its edges in strictly rising order of (from, to)"; "m (2 bytes, 1 to 1,000)", which "may not exceed its task's largest e"; "a job longer than
+// its own deadline is a typing slip".
 //
 // On numbers alone, so that whoever takes a frame, from a text or from a table, asks the same questions.
 ghost use mathlib.Core.Path.{_≡_};

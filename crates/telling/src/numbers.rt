@@ -7,6 +7,17 @@ pub(crate) fn sum(a: u32, b: u32) -> u32 {
     a + b
 }
 
+// A number so many times over.
+pub(crate) fn times(n: usize, a: u32) -> u32 {
+    let mut total: u32 = 0;
+    let mut i: usize = 0;
+    while i < n {
+        total = sum(total, a);
+        i += 1;
+    }
+    total
+}
+
 pub(crate) fn excess(a: u32, b: u32) -> u32 {
     if a < b {
         return 0;

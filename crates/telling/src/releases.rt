@@ -1,5 +1,6 @@
 // The releases that show a miss, or make a meets so late, out of the witness area: "per higher task in order, the path's length and vertices".
 use crate::numbers::sum;
+use crate::numbers::times;
 use crate::print::end_line;
 use crate::print::say;
 use crate::print::say_with;
@@ -12,6 +13,9 @@ use table::Task;
 ghost use Prim.Native.Nat.{_+_, _≤_, _<_};
 ghost use lib.ListN.{length};
 ghost use Rattle.meaning.specs.Bounds.{mostTasks};
+
+// So many releases of one vertex behind each other, by its edge to itself, are said once.
+const SHORTEST_RUN: usize = 4;
 
 fn wide(cell: u16) -> u32 {
     cell as u32
@@ -55,11 +59,40 @@ fn wait_before(task: Task, path: &[u16], i: usize) -> u32
     separation(task, wide(path[i - 1]), wide(path[i]))
 }
 
-fn say_release(i: usize, v: u32, tick: u32) {
-    if i != 0 {
-        say(b", ");
+// Where the run of releases of one vertex that begins at `from` ends; a run too short to be said once is taken one release at a time.
+fn run_end(path: &[u16], from: usize) -> usize
+    requires { ⌜ from < length (now path) ⌝ }
+    ensures { λ r. ⌜ (from < r) × (r ≤ length (now (path .entry))) ⌝ }
+{
+    let v = path[from];
+    let mut i = from + 1;
+    while i < path.len() {
+        if path[i] != v {
+            break;
+        }
+        i += 1;
     }
+    if i - from < SHORTEST_RUN {
+        return from + 1;
+    }
+    i
+}
+
+// n releases of vertex v, the first at a tick, the others each so much later than the one before. Gives the last one's tick.
+fn say_run(v: u32, n: usize, tick: u32, wait: u32) -> u32
+    requires { ⌜ 0 < n ⌝ }
+{
+    let last = sum(tick, times(n - 1, wait));
     say_with(b"vertex #0 at tick #1", [v, tick, 0, 0]);
+    if n == 1 {
+        return last;
+    }
+    if wait == 1 {
+        say_with(b" and every tick up to tick #0", [last, 0, 0, 0]);
+        return last;
+    }
+    say_with(b" and every #0 ticks up to tick #1", [wait, last, 0, 0]);
+    last
 }
 
 // One path's releases: the first at tick 0. Gives its load at the deadline, which is the total e of its vertices, since its span is below the deadline.
@@ -68,11 +101,16 @@ fn say_path(task: Task, path: &[u16]) -> u32 {
     let mut tick: u32 = 0;
     let mut i: usize = 0;
     while i < path.len() {
+        if i != 0 {
+            say(b", ");
+        }
         let v = wide(path[i]);
-        tick = sum(tick, wait_before(task, path, i));
-        say_release(i, v, tick);
-        load = sum(load, execution(task, v));
-        i += 1;
+        let end = run_end(path, i);
+        let n = end - i;
+        let first = sum(tick, wait_before(task, path, i));
+        tick = say_run(v, n, first, separation(task, v, v));
+        load = sum(load, times(n, execution(task, v)));
+        i = end;
     }
     load
 }

@@ -1,5 +1,5 @@
-// A readable table: a line for each vertex, "in rising order of task and then vertex". "Lends 8,192 work cells and 1,407 witness cells, and uses budget
-// 100,000."
+// A readable table: a line for each vertex, "in rising order of task and then vertex", by what the desk program lends: "8,192 work cells", "7,007 witness
+// cells", "budget 100,000".
 use crate::masks::masked_below;
 use crate::print::say_with;
 use crate::verdicts::Worst;

@@ -15,7 +15,9 @@ use std::io;
 /// Where the random tables start from.
 const SEED: u64 = 20_261_116;
 /// How many random vertices of each verdict are judged: few of them by the top group alone.
-const RANDOM_VERTICES: [usize; 3] = [3, 8, 8];
+const RANDOM_VERTICES: [usize; 3] = [2, 7, 7];
+/// How many of those have a d above 200.
+const SLOW_VERTICES: [usize; 3] = [1, 4, 0];
 
 /// Writes each case, and one whose mode there is not.
 fn main() -> io::Result<()> {
@@ -26,7 +28,9 @@ fn main() -> io::Result<()> {
     vertices.texts();
     vertices.numbers();
     vertices.large();
+    vertices.slow();
     vertices.random(SEED, RANDOM_VERTICES, Vertices::around);
+    vertices.random_slow(SEED, SLOW_VERTICES, Vertices::around);
     let vertices = vertices.cases;
     let unknown = Case {
         mode: b'z',

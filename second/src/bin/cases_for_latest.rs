@@ -15,7 +15,9 @@ use std::io;
 /// Where the random tables start from.
 const SEED: u64 = 20_261_118;
 /// How many random vertices of each verdict are judged whose count is 1, small, or larger.
-const RANDOM_VERTICES: [usize; 3] = [2, 8, 16];
+const RANDOM_VERTICES: [usize; 3] = [2, 8, 14];
+/// How many of those have a d above 200.
+const SLOW_VERTICES: [usize; 3] = [2, 6, 0];
 /// More than the tables made here need.
 const PLENTY: (u32, u32) = (300, 60);
 /// A budget above every count here.
@@ -30,11 +32,13 @@ fn main() -> io::Result<()> {
     vertices.texts();
     vertices.numbers();
     vertices.large();
+    vertices.slow();
     nothing_above(&mut vertices);
     one_task(&mut vertices);
     several_tasks(&mut vertices);
     longest(&mut vertices);
     vertices.random(SEED, RANDOM_VERTICES, Vertices::at_count);
+    vertices.random_slow(SEED, SLOW_VERTICES, Vertices::at_count);
     write_cases(vertices.cases)
 }
 
@@ -51,7 +55,7 @@ fn above(tasks: &[String], judged: (u32, u32)) -> String {
 
 /// A vertex without higher tasks: e below d and at d; and the same held up by a masked tick, which only those at d miss by.
 fn nothing_above(vertices: &mut Vertices) {
-    let first = task(&[(1, 5), (4, 5), (5, 5), (200, 200)], &[]);
+    let first = task(&[(1, 5), (4, 5), (5, 5), (1_000, 1_000)], &[]);
     let masking = masked_task(1, &[(1, 50)], &[]);
     for text in [first.clone(), first + &masking].map(|tasks| text(&[tasks])) {
         for vertex in 0..4 {
@@ -109,8 +113,8 @@ fn several_tasks(vertices: &mut Vertices) {
 
 /// The latest finish that there is, by a long path, one a little earlier, and a miss.
 fn longest(vertices: &mut Vertices) {
-    for e in [99, 100, 101] {
-        let text = above(&[self_edge(1, 2, 2)], (e, 200));
-        vertices.push(&text, (1, 0), 1, (200, 201));
+    for e in [499, 500, 501] {
+        let text = above(&[self_edge(1, 2, 2)], (e, 1_000));
+        vertices.push(&text, (1, 0), 1, (1_000, 1_001));
     }
 }

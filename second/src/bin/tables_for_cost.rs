@@ -1,19 +1,22 @@
 //! Writes the tables whose judging docs/COST.md counts: a sequence as `second cases` reads it.
 //!
-//! The first argument is a family: `small` tables like R1, `paper` tables like those of source document 001, section 8.1, or `heavy` ones,
-//! with many groups. With `few`, the bench examples and some tables of each family. A second argument gives another seed. With `latest` before
-//! them, each table is asked how late every vertex's latest is. None has a masked length, so that costs can be compared with earlier ones.
+//! The first argument is a family: `small` tables like R1, `paper` tables like those of source document 001, section 8.1, `heavy` ones, with
+//! many groups, `slow` ones, of slow cradles with long deadlines, or `long`, a table with the longest path. With `few`, the bench examples and
+//! some tables of each family. A second argument gives another seed. With `latest` before them, each table is asked how late every vertex's
+//! latest is. None has a masked length, so that costs can be compared with earlier ones.
 
 #![forbid(unsafe_code)]
 
 mod made;
 
-use made::{bench, random_unmasked_task, self_edge, task, text, Random, Size};
-use second::bounds::{BUDGET, D, MOST_WORK_CELLS, WITNESS_CELLS};
+use made::{bench, between, random_unmasked_task, self_edge, task, text, Random, Size};
+use second::bounds::{BUDGET, MOST_WORK_CELLS, WITNESS_CELLS};
 use second::case::{FINISHES, UNMARKED};
 use second::judge::{judge, Verdict};
+use second::latest::latest;
 use second::sequence::write_sequence;
 use second::table::{TaskNo, VertexNo};
+use second::text::read;
 use std::env;
 use std::io;
 
@@ -46,7 +49,7 @@ fn main() -> io::Result<()> {
     };
     let Some(texts) = texts else {
         return Err(io::Error::other(
-            "usage: tables_for_cost [latest] small | paper | heavy | few [SEED]",
+            "usage: tables_for_cost [latest] small | paper | heavy | slow | long | few [SEED]",
         ));
     };
     let texts: Vec<_> = texts.into_iter().map(String::into_bytes).collect();
@@ -65,15 +68,13 @@ fn family_of(name: &str, seed: u64) -> Option<Vec<String>> {
         "heavy" => Some([tables(6, alike), tables(2, dense)].concat()),
         "few" => {
             let families = [tables(20, small), tables(5, paper), tables(1, alike)];
-            Some([bench::texts(), families.concat()].concat())
+            let slow = tables(3, slow);
+            Some([bench::texts(), families.concat(), slow, vec![long()]].concat())
         }
+        "slow" => Some(tables(40, slow)),
+        "long" => Some(vec![long()]),
         _ => None,
     }
-}
-
-/// A number between these, both included.
-fn between(random: &mut Random, least: usize, most: usize) -> usize {
-    least + random.below(most - least + 1)
 }
 
 /// One to three tasks: self-edge tasks like R1's, or of up to three vertices.
@@ -154,9 +155,9 @@ fn alike(random: &mut Random) -> String {
 fn dense(random: &mut Random) -> String {
     loop {
         let mut tasks: Vec<_> = (0..7).map(|_| dense_task(random)).collect();
-        for e in 1..=*D.end() {
+        for e in 1..=200 {
             tasks.truncate(7);
-            tasks.push(task(&[(u32::from(e), 200)], &[]));
+            tasks.push(task(&[(e, 200)], &[]));
             let text = text(&tasks);
             match last_verdict(&text) {
                 Verdict::Meets { count } if count < MANY_GROUPS => {}
@@ -192,4 +193,71 @@ fn last_verdict(text: &str) -> Verdict {
         &mut work,
         &mut witness,
     )
+}
+
+/// A slow cradle: two to six tasks, a few of them with a short job that comes often, so that their paths are long; every search is finished.
+fn slow(random: &mut Random) -> String {
+    loop {
+        let mut tasks = Vec::new();
+        for _ in 0..between(random, 2, 6) {
+            tasks.push(match random.below(4) {
+                0 => often(random),
+                _ => slow_task(random),
+            });
+        }
+        let text = text(&tasks);
+        if is_finished(&text) {
+            return text;
+        }
+    }
+}
+
+/// A self-edge task whose separation is a twentieth of a slow task's deadline.
+fn often(random: &mut Random) -> String {
+    let p = between(random, 20, 50);
+    let e = between(random, 1, p / 6);
+    self_edge(e as u32, p as u32, p as u32)
+}
+
+/// A task of one to eight vertices, fan-out up to 2, d 400 to 1,000, and separations up to the largest: no path has more than three vertices
+/// by tick 1,000, so that there are at most 8 x 2 x 2.
+fn slow_task(random: &mut Random) -> String {
+    let count = between(random, 1, 8);
+    let mut vertices = Vec::new();
+    let mut edges = Vec::new();
+    for from in 0..count {
+        let d = between(random, 400, 1_000);
+        vertices.push((between(random, 1, d / 8) as u32, d as u32));
+        let mut ends: Vec<_> = (0..random.below(3)).map(|_| random.below(count)).collect();
+        ends.sort_unstable();
+        ends.dedup();
+        for to in ends {
+            let most = [d + 50, 1_200, 60_000][random.below(3)];
+            edges.push((from, to, between(random, d, most) as u32));
+        }
+    }
+    task(&vertices, &edges)
+}
+
+/// Is every search of a table finished within the desk's budget, that for the worst finish, too?
+fn is_finished(text: &str) -> bool {
+    let Ok(table) = read(text.as_bytes()) else {
+        return false;
+    };
+    let mut work = vec![0; MOST_WORK_CELLS];
+    let mut witness = [0; WITNESS_CELLS];
+    let mut numbers = table.numbers();
+    numbers.all(|(task, vertex)| {
+        let bytes = text.as_bytes();
+        let verdict = judge(bytes, task, vertex, BUDGET, &mut work, &mut witness);
+        let lateness = latest(bytes, task, vertex, BUDGET, &mut work, &mut witness);
+        [verdict, lateness.verdict()]
+            .iter()
+            .all(|verdict| matches!(verdict, Verdict::Meets { .. } | Verdict::Misses { .. }))
+    })
+}
+
+/// The longest path: a release at every tick, above a vertex of the longest deadline.
+fn long() -> String {
+    text(&[self_edge(1, 1, 1), task(&[(1, 1_000)], &[])])
 }

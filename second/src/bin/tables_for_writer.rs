@@ -29,9 +29,9 @@ const PLENTY: u32 = 4_000;
 /// Random tasks of the texts.
 const SIZE: Size = Size {
     vertices: 4,
-    e: 200,
-    d: (1, 200),
-    p: 800,
+    e: 1_000,
+    d: (1, 1_000),
+    p: 59_001,
 };
 
 /// What is written: the fixed cases, how a random one is made, and how many of those there are.
@@ -141,10 +141,10 @@ fn bench_texts() -> Vec<String> {
 
 /// The longest texts: without masked lengths, and with them.
 fn longest_texts() -> [String; 2] {
-    let edges: Vec<_> = (0..32).map(|n| (n / 12, n % 12, 1_000)).collect();
-    let vertices = [(200, 200); 12];
+    let edges: Vec<_> = (0..32).map(|n| (n / 12, n % 12, 60_000)).collect();
+    let vertices = [(1_000, 1_000); 12];
     let plain = task(&vertices, &edges);
-    let masked = masked_task(200, &vertices, &edges);
+    let masked = masked_task(1_000, &vertices, &edges);
     [plain, masked].map(|task| text(&vec![task; 8]))
 }
 

@@ -1,8 +1,8 @@
 //! Writes the texts that the desk is checked with: a sequence as `second cases` reads it.
 //!
 //! The bench examples, R2 with a masked length, R1 as rings and gear tables, every refusal of a text, some of jobs longer than their own
-//! deadline, inputs around the longest, and random texts, whole and damaged, most with a masked length, and most with a ring or a gear
-//! table. The sequence is the same from run to run. A first argument gives the random part another seed; with a second one, only so many
+//! deadline, inputs around the longest, long paths and large areas, and random texts, whole and damaged, most with a masked length, and most
+//! with a ring or a gear table. The sequence is the same from run to run. A first argument gives the random part another seed; with a second one, only so many
 //! random texts are written.
 
 #![forbid(unsafe_code)]
@@ -11,7 +11,7 @@ mod made;
 
 use made::vendors::{damage_vendor_line, mix_in, vendor_task, KINDS};
 use made::{bench, damage, damage_m, masked_task, random_task, refusals, task, text};
-use made::{slips, vendor_refusals, Random, Size};
+use made::{between, self_edge, slips, slow, vendor_refusals, Random, Size};
 use second::bounds::INPUT_BYTES;
 use second::case::DESK;
 use second::sequence::write_sequence;
@@ -21,16 +21,18 @@ use std::io;
 /// The random part's own seed.
 const SEED: u64 = 20_261_117;
 /// How many random texts are written.
-const RANDOM_TEXTS: u64 = 270;
+const RANDOM_TEXTS: u64 = 310;
 /// One refused text of so many with a ring or a gear table is written; the reader is checked with all of them.
 const ONE_VENDOR_REFUSAL_OF: usize = 6;
 /// One text of so many about jobs longer than their own deadline is written; the reader is checked with all of them.
 const ONE_SLIP_OF: usize = 5;
 /// One random text of so many has a vertex with many groups to examine.
 const ONE_CROWDED_OF: usize = 6;
+/// One random text of so many has a vertex below long paths.
+const ONE_LONG_OF: usize = 12;
 
-/// A few short paths; close releases, so many paths; and long deadlines, which need many work cells.
-const SIZES: [Size; 3] = [
+/// A few short paths; close releases, so many paths; long deadlines, which need many work cells; and slow cradles.
+const SIZES: [Size; 5] = [
     Size {
         vertices: 4,
         e: 7,
@@ -49,6 +51,8 @@ const SIZES: [Size; 3] = [
         d: (20, 181),
         p: 120,
     },
+    slow::SIZE,
+    slow::FAR,
 ];
 
 /// Writes all texts, or as many random ones as the arguments say.
@@ -79,8 +83,37 @@ fn all_texts(seed: u64) -> Vec<Vec<u8>> {
     for (n, last_e) in [(11, 1), (12, 1), (11, 2), (12, 2)] {
         texts.push(every_group(n, last_e).into_bytes());
     }
+    slow_texts(&mut texts);
     texts.extend(random_texts(seed, RANDOM_TEXTS));
     texts
+}
+
+/// The longest witness; paths of as many vertices as one byte counts, and around it; work areas that just suffice and don't; R7 with numbers
+/// 200 times as large; the largest loads; and a separation beyond every deadline.
+fn slow_texts(texts: &mut Vec<Vec<u8>>) {
+    let every_tick = || self_edge(1, 1, 1);
+    let alone = |e: u32, d: u32| task(&[(e, d)], &[]);
+    let mut tables = vec![[vec![every_tick(); 7], vec![alone(1, 1_000)]].concat()];
+    for d in [255, 256, 257, 999] {
+        tables.push(vec![every_tick(), self_edge(1, d, d), alone(1, d)]);
+    }
+    for (paths, d) in [(4, 1_000), (5, 910), (5, 911), (5, 1_000)] {
+        tables.push(vec![task(&vec![(1, 10); paths], &[]), alone(1, d)]);
+    }
+    let r7 = task(&[(600, 1_000), (200, 400), (800, 1_000)], &[(1, 2, 400)]);
+    tables.push(vec![r7, alone(200, 1_000)]);
+    let heaviest = task(&[(999, 999), (1_000, 1_000)], &[(0, 1, 999)]);
+    let masking = masked_task(1_000, &[(1_000, 1_000)], &[]);
+    tables.push(vec![
+        heaviest.clone(),
+        heaviest,
+        alone(1_000, 1_000),
+        masking,
+    ]);
+    for e in [700, 701] {
+        tables.push(vec![self_edge(300, 1_000, 60_000), alone(e, 1_000)]);
+    }
+    texts.extend(tables.iter().map(|tasks| text(tasks).into_bytes()));
 }
 
 /// Inputs of the longest length, one more, and far more: with bytes after a valid text, and without any line feed.
@@ -117,6 +150,9 @@ fn random_text(random: &mut Random) -> Vec<u8> {
     if random.below(ONE_CROWDED_OF) == 0 {
         return crowded(random).into_bytes();
     }
+    if random.below(ONE_LONG_OF) == 0 {
+        return below_long_paths(random).into_bytes();
+    }
     let mut tasks = Vec::new();
     for _ in 0..=random.below(4) {
         let size = &SIZES[random.below(SIZES.len())];
@@ -149,6 +185,27 @@ fn random_text(random: &mut Random) -> Vec<u8> {
         }
     }
     text
+}
+
+/// A random table's text with one or two tasks of one long path each, at times another task, and below them vertices of a long deadline.
+fn below_long_paths(random: &mut Random) -> String {
+    let mut tasks = Vec::new();
+    for _ in 0..=random.below(2) {
+        let p = between(random, 1, 3) as u32;
+        let e = between(random, 1, p as usize) as u32;
+        tasks.push(self_edge(e, p, p));
+    }
+    if random.below(2) == 0 {
+        tasks.push(random_task(random, &slow::SIZE));
+    }
+    let mut vertices = Vec::new();
+    for _ in 0..=random.below(2) {
+        let d = between(random, 256, 1_000);
+        let e = [1, d / 3, d / 2][random.below(3)] as u32;
+        vertices.push((e, d as u32));
+    }
+    tasks.push(task(&vertices, &[]));
+    text(&tasks)
 }
 
 /// The text with one line taken out, put somewhere else, or doubled there; or as it is.

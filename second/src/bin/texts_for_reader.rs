@@ -19,9 +19,9 @@ const RANDOM_TABLES: usize = 60;
 /// Numbers up to the largest.
 const SIZE: Size = Size {
     vertices: 4,
-    e: 200,
-    d: (1, 200),
-    p: 800,
+    e: 1_000,
+    d: (1, 1_000),
+    p: 59_001,
 };
 
 /// Writes a case for each text.

@@ -1,7 +1,7 @@
 //! Writes the texts that the words for people are checked with, each to a file of its own in the folder that the argument names.
 //!
-//! The bench examples, faulty lines of every kind, each verdict, masked time, rings and gear tables, and random tables, most with a masked length, and most
-//! with a ring or a gear table. The texts are the same from run to run.
+//! The bench examples, faulty lines of every kind, each verdict, masked time, runs of releases, rings and gear tables, and random tables, most with a masked length,
+//! and most with a ring or a gear table. The texts are the same from run to run.
 
 #![forbid(unsafe_code)]
 
@@ -9,7 +9,7 @@ mod made;
 
 use made::refusals::{with, LINES};
 use made::vendors::mix_in;
-use made::{bench, masked_task, random_task, self_edge, task, text, Random, Size};
+use made::{bench, masked_task, random_task, self_edge, slow, task, text, Random, Size};
 use second::bounds::INPUT_BYTES;
 use std::path::PathBuf;
 use std::{env, fs, io};
@@ -44,6 +44,7 @@ fn texts() -> Vec<Vec<u8>> {
     ends(&mut texts);
     verdicts(&mut texts);
     masked(&mut texts);
+    runs(&mut texts);
     texts.extend(bench::vendor_texts().into_iter().map(String::into_bytes));
     random(&mut texts);
     texts
@@ -80,9 +81,10 @@ fn rules(texts: &mut Vec<Vec<u8>>) {
         (2, "0300000005\n"),
         (6, "0000\n"),
         (1, "010d02\n"),
-        (3, "02000100c9\n"),
+        (3, "02000103e9\n"),
         (4, "0300020005\n"),
         (4, "0300010004\n"),
+        (4, "030001ea61\n"),
         (5, "0300010006\n"),
         (5, "0300000005\n"),
         (1, "0402020000\n"),
@@ -102,7 +104,7 @@ fn rules(texts: &mut Vec<Vec<u8>>) {
     texts.push(ninth.into_bytes());
     for text in [
         "0702\n06000100050005\n06000100060005\n",
-        "0501\n06000100c90064\n",
+        "0501\n06000103e90064\n",
         "0702\n06000500050005\n06000600050004\n",
     ] {
         texts.push(text.into());
@@ -124,12 +126,15 @@ fn ends(texts: &mut Vec<Vec<u8>>) {
     }
 }
 
-/// Refusal 9 of a task that isn't the first, refusal 10, one tick and one group, the longest paths, and a worst finish that isn't found.
+/// Refusal 9 of a task that isn't the first, refusal 10, one tick and one group, the longest paths, deadlines and separations of slow cradles, and a worst finish that isn't found.
 fn verdicts(texts: &mut Vec<Vec<u8>>) {
     let few = self_edge(1, 5, 5);
     let below = task(&[(1, 31), (20, 21)], &[]);
     let mut longest = vec![self_edge(1, 1, 1); 7];
     longest.push(task(&[(1, 200)], &[]));
+    let slow = [self_edge(1, 3, 3), self_edge(1, 1_000, 60_000)];
+    let slow_judged = task(&[(500, 1_000), (667, 1_000), (1, 911)], &[]);
+    let five = task(&[(1, 1_000); 5], &[]);
     let mut cells = vec![bench::r10(4); 4];
     cells.push(task(&[(1, 21), (1, 20)], &[]));
     let mut not_found = vec![task(&[(1, 9); 12], &[]); 4];
@@ -140,6 +145,8 @@ fn verdicts(texts: &mut Vec<Vec<u8>>) {
         cells,
         vec![task(&[(1, 1)], &[]), task(&[(1, 1), (1, 2)], &[])],
         longest,
+        [slow.to_vec(), vec![slow_judged.clone()]].concat(),
+        vec![five, slow_judged],
         not_found,
     ];
     texts.extend(tables.map(|tasks| text(&tasks).into_bytes()));
@@ -165,12 +172,36 @@ fn masked(texts: &mut Vec<Vec<u8>>) {
     texts.extend(tables.map(|tasks| text(&tasks).into_bytes()));
 }
 
-/// Random tables of up to four tasks, and most with one or two rings or gear tables among them.
+/// Runs of three, four and five releases of one vertex, every two ticks and every tick: as a whole path, in a miss and in a meets; between releases of another
+/// vertex; before another run; and twice in one path.
+fn runs(texts: &mut Vec<Vec<u8>>) {
+    let between = task(&[(1, 4), (1, 1)], &[(0, 1, 4), (1, 0, 1), (1, 1, 1)]);
+    let before = task(&[(1, 1), (1, 1)], &[(0, 0, 6), (0, 1, 1), (1, 1, 1)]);
+    let twice = task(&[(1, 3), (1, 2)], &[(0, 1, 3), (1, 0, 9), (1, 1, 2)]);
+    let tables: [(String, &[(u32, u32)]); 5] = [
+        (
+            self_edge(1, 2, 2),
+            &[(6, 6), (8, 8), (10, 10), (3, 6), (4, 8), (1, 10)],
+        ),
+        (self_edge(1, 1, 1), &[(3, 3), (4, 4), (5, 5), (1, 1_000)]),
+        (between, &[(5, 9), (4, 9), (4, 10)]),
+        (before, &[(24, 24), (22, 22), (17, 17), (16, 16)]),
+        (twice, &[(4, 25), (3, 21)]),
+    ];
+    for (above, judged) in tables {
+        texts.push(text(&[above, task(judged, &[])]).into_bytes());
+    }
+}
+
+/// Random tables of up to four tasks, one task in three of a slow cradle, and most with one or two rings or gear tables among them.
 fn random(texts: &mut Vec<Vec<u8>>) {
     let mut random = Random(20_261_117);
     for _ in 0..RANDOM_TABLES {
         let mut tasks: Vec<_> = (0..=random.below(4))
-            .map(|_| random_task(&mut random, &SIZE))
+            .map(|_| {
+                let size = [&SIZE, &SIZE, &slow::SIZE][random.below(3)];
+                random_task(&mut random, size)
+            })
             .collect();
         mix_in(&mut random, &mut tasks, &SIZE);
         texts.push(text(&tasks).into_bytes());

@@ -33,9 +33,21 @@ pub fn load(task: &Task, path: &[usize], t: u32) -> u32 {
     prefixes.map(total).max().unwrap()
 }
 
-/// The loads at t = 1 to d.
+/// The loads at t = 1 to d, the spans and totals of all prefixes worked out once.
 pub fn loads(task: &Task, path: &[usize], d: u32) -> Vec<u32> {
-    (1..=d).map(|t| load(task, path, t)).collect()
+    let spans = spans(task, path).unwrap();
+    let mut totals = Vec::new();
+    let mut total = 0;
+    for &vertex in path {
+        total += task.vertices[vertex].0;
+        totals.push(total);
+    }
+    let load = |t: u32| {
+        let prefixes = spans.iter().zip(&totals);
+        let below = prefixes.filter(|(&span, _)| span < t);
+        *below.map(|(_, total)| total).max().unwrap()
+    };
+    (1..=d).map(load).collect()
 }
 
 /// Is the path legal, its span below d, and no edge out of its last vertex keeps it there?

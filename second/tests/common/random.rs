@@ -145,7 +145,8 @@ fn slip(random: &mut Random, text: &mut [u8]) {
     let line = &mut vertices[at];
     let d = String::from_utf8_lossy(&line[6..10]).into_owned();
     let d = u32::from_str_radix(&d, 16).unwrap_or(0);
-    let e = [d + 1, d + 1, 256, 1_000, 1_001][random.below(5)] % 65_536;
+    let [more, most] = [256, 1_000].map(|e| e.max(d + 1));
+    let e = [d + 1, d + 1, more, most, 1_001][random.below(5)] % 65_536;
     line[2..6].copy_from_slice(format!("{e:04x}").as_bytes());
     if random.below(4) == 0 {
         let numbers = (line.len() - 2) / 4;

@@ -1,4 +1,4 @@
-//! The refusal sheet's rows 1 to 7, with what wishes 3 and 5 add to them, and wish 6's row 13, once more, line by line and without a reader's structure.
+//! The refusal sheet's rows 1 to 7, with what wishes 3, 5 and 7 add to them, and wish 6's row 13, once more, line by line and without a reader's structure.
 
 use super::Task;
 
@@ -101,7 +101,7 @@ impl Expected {
     }
 
     fn take_vertex(&mut self, e: u32, d: u32) -> Result<(), u8> {
-        if e == 0 || e > 1000 || d == 0 || d > 200 {
+        if e == 0 || e > 1000 || d == 0 || d > 1000 {
             return Err(3);
         }
         if e > d {
@@ -119,7 +119,7 @@ impl Expected {
     fn take_edge(&mut self, from: usize, to: usize, p: u32) -> Result<(), u8> {
         let task = self.tasks.last_mut().unwrap();
         let count = task.vertices.len();
-        if from >= count || to >= count || p == 0 || p > 1000 {
+        if from >= count || to >= count || p == 0 || p > 60000 {
             return Err(3);
         }
         if task.vertices[from].1 > p {
@@ -145,7 +145,7 @@ impl Expected {
     }
 
     fn take_vendor_vertex(&mut self, e: u32, d: u32, p: u32) -> Result<(), u8> {
-        if e == 0 || e > 1000 || d == 0 || d > 200 || p == 0 || p > 1000 {
+        if e == 0 || e > 1000 || d == 0 || d > 1000 || p == 0 || p > 60000 {
             return Err(3);
         }
         if e > d {

@@ -1,4 +1,4 @@
-//! What the tests of the writer share: the call on a marked area, and the rules of wishes 4 and 6 once more, as a list of all faults.
+//! What the tests of the writer share: the call on a marked area, and the rules of wishes 4, 6 and 7 once more, as a list of all faults.
 
 use super::{text, Task};
 use second::record::{EdgeRecord, Record, TaskRecord, VertexRecord};
@@ -111,7 +111,7 @@ fn add_faults(faults: &mut Vec<(usize, usize)>, line: usize, task: &Task) {
         faults.push((line, NUMBER));
     }
     for (number, &(e, d)) in task.vertices.iter().enumerate() {
-        if e == 0 || e > 1_000 || d == 0 || d > 200 {
+        if e == 0 || e > 1_000 || d == 0 || d > 1_000 {
             faults.push((line + 1 + number, NUMBER));
         }
         if e > d {
@@ -123,7 +123,7 @@ fn add_faults(faults: &mut Vec<(usize, usize)>, line: usize, task: &Task) {
     }
     for (number, &(from, to, p)) in task.edges.iter().enumerate() {
         let line = line + vertices + 1 + number;
-        if from >= vertices || to >= vertices || p == 0 || p > 1_000 {
+        if from >= vertices || to >= vertices || p == 0 || p > 60_000 {
             faults.push((line, NUMBER));
         }
         if from < vertices && task.vertices[from].1 > p {

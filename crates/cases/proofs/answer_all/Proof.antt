@@ -7,10 +7,12 @@ use Rattle.cases.proofs.answer_all.Statement.{statement}
 use Rattle.cases.proofs.answer_all.Tie as tie
 
 abbrev Inv-loop : tie.InvT-loop
-Inv-loop bytes work₀ at₀ work at = (at ≤ length bytes) × (stretchRoom ≤ length work) × (length work ≡ length work₀)
+Inv-loop bytes work₀ witness₀ out₀ at₀ work witness out at =
+    (at ≤ length bytes) × (stretchRoom ≤ length work)
+    × (length work ≡ length work₀) × (length witness ≡ length witness₀) × (length out ≡ length out₀)
 
 abbrev μ-loop : tie.MeasureT-loop
-μ-loop bytes work₀ at₀ work at = length bytes - at
+μ-loop bytes work₀ witness₀ out₀ at₀ work witness out at = length bytes - at
 
 loop-holds : tie.Need-loop-holds Inv-loop μ-loop
 loop-holds c = search needs
@@ -54,6 +56,12 @@ loop-again c = search needs
 same-length : tie.Need-same-length Inv-loop μ-loop
 same-length c = search needs
 
+same-length-2 : tie.Need-same-length-2 Inv-loop μ-loop
+same-length-2 c = search needs
+
+same-length-3 : tie.Need-same-length-3 Inv-loop μ-loop
+same-length-3 c = search needs
+
 returns : tie.Need-returns Inv-loop μ-loop
 returns c = search needs
 
@@ -77,4 +85,6 @@ answer-all-spec =
     loop-less
     loop-again
     same-length
+    same-length-2
+    same-length-3
     returns)

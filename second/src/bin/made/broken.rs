@@ -65,12 +65,12 @@ fn numbers(tables: &mut Vec<Draft>, place: usize) {
         table.tasks[place].vertices[place].0 = e;
         tables.push(table);
     }
-    for d in [0, 1, 200, 201, 65_535] {
-        let mut table = table([1; 3], 5, 200);
+    for d in [0, 1, 201, 1_000, 1_001, 65_535] {
+        let mut table = table([1; 3], 5, 1_000);
         table.tasks[place].vertices[place].1 = d;
         tables.push(table);
     }
-    for p in [0, 1, 1_000, 1_001, 65_535] {
+    for p in [0, 1, 1_001, 60_000, 60_001, 65_535] {
         let mut table = table([1; 3], 1, 9);
         table.tasks[place].edges[place].2 = p;
         tables.push(table);
@@ -85,8 +85,8 @@ fn masked_lengths(tables: &mut Vec<Draft>, place: usize) {
     for m in [0, 1, 5, 6, 1_000, 1_001, 65_535] {
         push(task(E, 5, 9), m);
     }
-    for m in [199, 200, 201] {
-        push(task([2, 200, 3], 200, 200), m);
+    for m in [999, 1_000, 1_001] {
+        push(task([2, 1_000, 3], 1_000, 1_000), m);
     }
     for m in [5, 6] {
         push(task([5, 2, 3], 5, 9), m);
@@ -106,7 +106,7 @@ pub fn ends(tables: &mut Vec<Draft>, place: usize, numbers: &[u16]) {
 
 /// d of the starting vertex at p and one above.
 fn deadlines(tables: &mut Vec<Draft>, place: usize) {
-    for (d, p) in [(9, 9), (10, 9), (200, 200), (200, 199)] {
+    for (d, p) in [(9, 9), (10, 9), (1_000, 1_000), (1_000, 999)] {
         let mut task = task([1; 3], 1, 9);
         task.vertices[usize::from(PAIRS[place].0)].1 = d;
         task.edges[place].2 = p;
@@ -154,14 +154,14 @@ fn slips_beside_m(tables: &mut Vec<Draft>) {
 fn two_lines(tables: &mut Vec<Draft>) {
     let faults: [fn(&mut Draft); 10] = [
         |table| table.tasks[0].m = 1_001,
-        |table| table.tasks[0].vertices[0].1 = 201,
+        |table| table.tasks[0].vertices[0].1 = 1_001,
         |table| table.tasks[0].edges[1].2 = 4,
         |table| table.tasks[1].nv = 13,
         |table| table.tasks[1].vertices[1].0 = 6,
         |table| table.tasks[1].m = 8,
         |table| table.tasks[1].edges[0].1 = 3,
         |table| table.tasks[1].edges[1] = (0, 1, 9),
-        |table| table.tasks[2].edges[1].2 = 1_001,
+        |table| table.tasks[2].edges[1].2 = 60_001,
         |table| table.tasks[2].edges[2].0 = 0,
     ];
     for (number, first) in faults.iter().enumerate() {
@@ -181,7 +181,7 @@ fn one_line(tables: &mut Vec<Draft>) {
         (2, 3, 4),
         (3, 2, 4),
         (0, 1, 0),
-        (0, 1, 1_001),
+        (0, 1, 60_001),
         (0, 3, 9),
         (0, 3, 4),
         (1, 0, 4),
@@ -194,7 +194,7 @@ fn one_line(tables: &mut Vec<Draft>) {
         task.edges[2] = edge;
         tables.push(with_task(1, task));
     }
-    for (m, last) in [(8, (0, 5)), (8, (3, 201)), (8, (0, 0)), (5, (0, 201))] {
+    for (m, last) in [(8, (0, 5)), (8, (3, 1_001)), (8, (0, 0)), (5, (0, 1_001))] {
         let mut task = task(E, 5, 9);
         task.vertices[2] = last;
         tables.push(with_task(1, TaskDraft { m, ..task }));

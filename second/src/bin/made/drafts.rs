@@ -11,9 +11,9 @@ const PLACES: (usize, usize, usize) = (8, 12, 32);
 /// Numbers up to the largest, in tasks of few vertices.
 const FEW_VERTICES: Size = Size {
     vertices: 4,
-    e: 200,
-    d: (1, 200),
-    p: 800,
+    e: 1_000,
+    d: (1, 1_000),
+    p: 59_001,
 };
 /// Numbers up to the largest, in tasks of up to the most vertices.
 const MANY_VERTICES: Size = Size {
@@ -180,12 +180,12 @@ impl Draft {
         } else if line <= usize::from(task.nv) {
             let (e, d) = &mut task.vertices[line - 1];
             // As e, the last is longer than its own deadline by one tick.
-            let value = [0, 1, 200, 201, 1_000, 1_001, junk(random), *d + 1][random.below(8)];
+            let value = [0, 1, 201, 999, 1_000, 1_001, junk(random), *d + 1][random.below(8)];
             *[e, d][number % 2] = value;
         } else {
             let (from, to, p) = &mut task.edges[line - 1 - usize::from(task.nv)];
             match number {
-                2 => *p = [0, 1, 99, 199, 1_000, 1_001, junk(random)][random.below(7)],
+                2 => *p = [0, 1, 99, 999, 60_000, 60_001, junk(random)][random.below(7)],
                 _ => *[from, to][number] = [0, task.nv - 1, task.nv, 255][random.below(4)],
             }
         }

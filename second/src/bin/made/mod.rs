@@ -1,4 +1,4 @@
-//! What the generators share: lines of a text, the bench examples, the refusals of a text, rings and gear tables, jobs longer than their own deadline,
+//! What the generators share: lines of a text, the bench examples, the refusals of a text, rings and gear tables, jobs longer than their own deadline, slow cradles,
 //! cases of one vertex, tables for the writer, and a pseudo-random generator.
 
 // No generator uses all of it.
@@ -9,6 +9,8 @@ pub mod broken;
 pub mod drafts;
 pub mod refusals;
 pub mod slips;
+pub mod slow;
+pub mod slow_vertices;
 pub mod vendor_refusals;
 pub mod vendors;
 pub mod vertices;
@@ -135,6 +137,11 @@ fn random_graph(random: &mut Random, size: &Size) -> Graph {
     // A task has at most 32 edges.
     edges.truncate(32);
     (vertices, edges)
+}
+
+/// A number between these, both included.
+pub fn between(random: &mut Random, least: usize, most: usize) -> usize {
+    least + random.below(most - least + 1)
 }
 
 /// The e and d of a random valid vertex: behind d, what is drawn for e begins again with 1.

@@ -34,6 +34,19 @@ pub fn add(texts: &mut Vec<Vec<u8>>) {
     faults_beside_m(texts);
     edges(texts);
     ends(texts);
+    digits(texts, "010101\n02000103e8\n030000ea60\n00\n", [13, 24]);
+}
+
+/// Refusal 1: the text with a foreign byte in each of the four digits of the numbers that begin at these bytes.
+pub fn digits(texts: &mut Vec<Vec<u8>>, valid: &str, numbers: [usize; 2]) {
+    texts.push(valid.into());
+    for digit in numbers.into_iter().flat_map(|first| first..first + 4) {
+        for foreign in [b'g', b'A', b' ', 0xe9] {
+            let mut text = valid.as_bytes().to_vec();
+            text[digit] = foreign;
+            texts.push(text);
+        }
+    }
 }
 
 /// The valid lines with one of them, from 1, replaced.
@@ -139,11 +152,11 @@ fn counts(texts: &mut Vec<Vec<u8>>) {
 
 /// Refusal 3 for a masked length: out of its bounds, and above the largest e, wherever that is.
 fn masked_lengths(texts: &mut Vec<Vec<u8>>) {
-    for m in [0, 1, 200, 201, 1_000, 1_001, 65_535] {
-        texts.push((masked_task(m, &[(200, 200)], &[]) + "00\n").into_bytes());
-        let below = masked_task(m, &[(199, 200)], &[]) + "00\n";
+    for m in [0, 1, 201, 999, 1_000, 1_001, 65_535] {
+        texts.push((masked_task(m, &[(1_000, 1_000)], &[]) + "00\n").into_bytes());
+        let below = masked_task(m, &[(999, 1_000)], &[]) + "00\n";
         texts.push(below.clone().into_bytes());
-        texts.push((task(&[(200, 200)], &[]) + &below).into_bytes());
+        texts.push((task(&[(1_000, 1_000)], &[]) + &below).into_bytes());
     }
     for largest in 0..3 {
         let mut vertices = [(3, 9); 3];
@@ -175,7 +188,7 @@ fn faults_beside_m(texts: &mut Vec<Vec<u8>>) {
                 push(line, task);
             }
         }
-        push(4, "02000100c9\n");
+        push(4, "02000103e9\n");
         for faulty in [
             "03\r\n",
             "0401000001\n",
@@ -196,12 +209,15 @@ fn faults_beside_m(texts: &mut Vec<Vec<u8>>) {
 fn bounds(texts: &mut Vec<Vec<u8>>) {
     for e in [0, 1, 1_000, 1_001, 65_535] {
         texts.push(with(3, &vertex_line(e, 6)));
+        texts.push((task(&[(e, 1_000)], &[]) + "00\n").into_bytes());
     }
-    for d in [0, 1, 6, 7, 200, 201, 65_535] {
+    for d in [0, 1, 6, 7, 200, 201, 999, 1_000, 1_001, 65_535] {
         texts.push(with(3, &vertex_line(1, d)));
         texts.push((task(&[(1, d)], &[]) + "00\n").into_bytes());
     }
-    for p in [0, 1, 5, 6, 1_000, 1_001, 4_096, 65_535] {
+    for p in [
+        0, 1, 5, 6, 1_000, 1_001, 4_096, 59_999, 60_000, 60_001, 65_535,
+    ] {
         texts.push(with(5, &edge_line(1, 1, p)));
     }
     for (from, to) in [(2, 0), (1, 2), (0, 255), (255, 0), (255, 255)] {
@@ -211,7 +227,14 @@ fn bounds(texts: &mut Vec<Vec<u8>>) {
 
 /// Refusals 4 and 5: d and p, and the order of edges; both with 3 in one line.
 fn edges(texts: &mut Vec<Vec<u8>>) {
-    for (d, p) in [(7, 7), (8, 7), (200, 200), (200, 199), (1, 1)] {
+    for (d, p) in [
+        (7, 7),
+        (8, 7),
+        (1_000, 1_000),
+        (1_000, 999),
+        (1_000, 60_000),
+        (1, 1),
+    ] {
         texts.push((task(&[(1, d)], &[(0, 0, p)]) + "00\n").into_bytes());
     }
     for (from, to) in [(0, 1), (1, 0)] {
@@ -248,12 +271,12 @@ fn ends(texts: &mut Vec<Vec<u8>>) {
     for last_e in [2, 1] {
         texts.push(bench::r1(last_e).into_bytes());
     }
-    let edges: Vec<_> = (0..32).map(|n| (n / 12, n % 12, 1_000)).collect();
-    let vertices = [(200, 200); 12];
+    let edges: Vec<_> = (0..32).map(|n| (n / 12, n % 12, 60_000)).collect();
+    let vertices = [(1_000, 1_000); 12];
     // Without masked lengths, and with them.
     let longest = task(&vertices, &edges).repeat(8) + "00\n";
     texts.push(longest.into_bytes());
-    let longest = masked_task(200, &vertices, &edges).repeat(8) + "00\n";
+    let longest = masked_task(1_000, &vertices, &edges).repeat(8) + "00\n";
     texts.push(longest.clone().into_bytes());
     texts.push((longest + "\n").into_bytes());
 }

@@ -10,21 +10,21 @@ pub const VERTICES: [(u16, u16); 15] = [
     (2, 1),
     (5, 5),
     (6, 5),
-    (199, 199),
-    (200, 199),
-    (200, 200),
     (201, 200),
+    (999, 999),
+    (1_000, 999),
+    (1_000, 1_000),
+    (1_001, 1_000),
     (257, 2),
-    (1_000, 200),
-    (1_001, 200),
+    (1_000, 201),
     (1, 0),
     (0, 0),
-    (1_000, 201),
+    (1_000, 1_001),
     (65_535, 65_535),
 ];
 
 /// A masked length, and beside it the place, e and d of one vertex of three; the others have e 3. The vertex's own refusals come before that of m.
-pub const BESIDE_M: [(u16, usize, u16, u16); 17] = [
+pub const BESIDE_M: [(u16, usize, u16, u16); 18] = [
     (3, 2, 2, 1),
     (4, 2, 2, 1),
     (4, 2, 4, 3),
@@ -37,10 +37,11 @@ pub const BESIDE_M: [(u16, usize, u16, u16); 17] = [
     (4, 1, 2, 1),
     (4, 0, 4, 3),
     (4, 1, 4, 3),
-    (1_000, 2, 200, 200),
+    (1_000, 2, 999, 1_000),
     (1_000, 2, 201, 200),
-    (1_000, 2, 1_000, 200),
-    (1_001, 2, 201, 200),
+    (1_000, 2, 1_000, 999),
+    (1_000, 2, 1_000, 1_000),
+    (1_001, 2, 1_000, 999),
     (1_001, 0, 2, 1),
 ];
 
@@ -80,17 +81,17 @@ fn vendor_bounds(texts: &mut Vec<Vec<u8>>) {
             (5, 5, 5),
             (6, 5, 5),
             (6, 5, 6),
-            (200, 199, 199),
-            (200, 200, 200),
             (201, 200, 200),
-            (1_000, 200, 1_000),
-            (1_001, 200, 1_000),
+            (1_000, 999, 999),
+            (1_000, 1_000, 1_000),
+            (1_000, 999, 60_000),
+            (1_001, 1_000, 60_000),
             (6, 5, 0),
-            (6, 5, 1_001),
+            (6, 5, 60_001),
             (6, 0, 7),
             (5, 5, 4),
             (6, 5, 4),
-            (201, 200, 199),
+            (1_000, 999, 998),
         ] {
             let mut vertices = [(1, 9, 9); 3];
             vertices[place] = vertex;
@@ -150,13 +151,14 @@ pub fn slip(random: &mut Random, text: &mut [u8]) {
 fn lengthen(random: &mut Random, line: &mut [u8]) {
     let d = number_at(line, 6);
     let one_more = d.saturating_add(1);
-    let e = [one_more, one_more, 256, 1_000, 1_001][random.below(5)];
+    let [more, most] = [256, 1_000].map(|e| one_more.max(e));
+    let e = [one_more, one_more, more, most, 1_001][random.below(5)];
     put_number(line, 2, e);
     if random.below(2) == 0 {
         return;
     }
-    let p = [0, 1_001, d.saturating_sub(1), d.saturating_sub(1)][random.below(4)];
-    let (first, number) = [(6, 0), (6, 201), (10, p), (10, p)][random.below(4)];
+    let p = [0, 60_001, d.saturating_sub(1), d.saturating_sub(1)][random.below(4)];
+    let (first, number) = [(6, 0), (6, 1_001), (10, p), (10, p)][random.below(4)];
     // A plain vertex has no p.
     if first < line.len() {
         put_number(line, first, number);

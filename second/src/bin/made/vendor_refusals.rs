@@ -1,6 +1,6 @@
 //! Texts with every refusal of a ring or a gear table, at each bound and one past it.
 
-use super::refusals::{replaced, LINES as PLAIN_LINES};
+use super::refusals::{digits, replaced, LINES as PLAIN_LINES};
 use super::vendors::{vendor_task, vendor_vertex_line, KINDS};
 use super::{masked_task, task};
 
@@ -27,6 +27,7 @@ pub fn add(texts: &mut Vec<Vec<u8>>) {
     deadlines(texts);
     ninth_tasks(texts);
     ends(texts);
+    digits(texts, "0501\n06000103e8ea60\n00\n", [11, 15]);
 }
 
 /// The valid lines with one of them, from 1, replaced.
@@ -122,10 +123,10 @@ fn bounds(texts: &mut Vec<Vec<u8>>) {
         for e in [0, 1, 1_000, 1_001, 65_535] {
             push(e, 5, 7);
         }
-        for d in [0, 1, 200, 201, 65_535] {
-            push(1, d, 1_000);
+        for d in [0, 1, 201, 1_000, 1_001, 65_535] {
+            push(1, d, 60_000);
         }
-        for p in [0, 1, 1_000, 1_001, 65_535] {
+        for p in [0, 1, 1_001, 60_000, 60_001, 65_535] {
             push(1, 1, p);
         }
     }
@@ -135,10 +136,10 @@ fn bounds(texts: &mut Vec<Vec<u8>>) {
 fn deadlines(texts: &mut Vec<Vec<u8>>) {
     for line in VERTEX_LINES {
         let mut push = |e, d, p| texts.push(with(line, &vendor_vertex_line(e, d, p)));
-        for (d, p) in [(7, 7), (8, 7), (200, 200), (200, 199), (2, 1)] {
+        for (d, p) in [(7, 7), (8, 7), (1_000, 1_000), (1_000, 999), (2, 1)] {
             push(1, d, p);
         }
-        for (e, d, p) in [(0, 8, 7), (1_001, 8, 7), (1, 201, 200), (1, 8, 0)] {
+        for (e, d, p) in [(0, 8, 7), (1_001, 8, 7), (1, 1_001, 1_000), (1, 8, 0)] {
             push(e, d, p);
         }
     }
@@ -190,7 +191,7 @@ fn ends(texts: &mut Vec<Vec<u8>>) {
         texts.push((LINES.concat() + more).into_bytes());
     }
     for kind in KINDS {
-        let longest = vendor_task(kind, &[(200, 200, 1_000); 12]).repeat(8);
+        let longest = vendor_task(kind, &[(1_000, 1_000, 60_000); 12]).repeat(8);
         texts.push((longest + "00\n").into_bytes());
     }
 }

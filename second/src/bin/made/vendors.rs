@@ -71,7 +71,7 @@ pub fn damage_vendor_line(random: &mut Random, text: &mut [u8]) {
 fn damage_vendor_vertex(random: &mut Random, line: &mut [u8]) {
     let below_d = number_at(line, 6).saturating_sub(1);
     let any = random.below(65_536) as u16;
-    let number = [0, 1, 9, 200, 201, 1_000, 1_001, any][random.below(8)];
+    let number = [0, 1, 9, 1_000, 1_001, 60_000, 60_001, any][random.below(8)];
     let (first, number) = [(2, number), (6, number), (10, number), (10, below_d)][random.below(4)];
     put_number(line, first, number);
 }

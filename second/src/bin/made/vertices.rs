@@ -14,7 +14,7 @@ use second::refusal::{Refusal, Row};
 use second::table::{TaskNo, VertexNo};
 
 /// The most cells of each area.
-const MOST_CELLS: (u32, u32) = (8_192, 1_500);
+pub const MOST_CELLS: (u32, u32) = (8_192, 7_100);
 /// More than R1 to R9 need.
 pub const ENOUGH: (u32, u32) = (40, 20);
 /// The largest count that a random vertex may have.
@@ -107,9 +107,9 @@ impl Vertices {
         for vertex in 0..4 {
             self.push(&alone, (0, vertex), 1, (0, 0));
         }
-        for (m, vertex) in [(199, 0), (200, 0), (200, 1)] {
-            let longest = masked_task(m, &[(200, 200)], &[]);
-            let tasks = [task(&[(1, 200), (200, 200)], &[]), longest];
+        for (m, vertex) in [(999, 0), (1_000, 0), (1_000, 1)] {
+            let longest = masked_task(m, &[(1_000, 1_000)], &[]);
+            let tasks = [task(&[(1, 1_000), (1_000, 1_000)], &[]), longest];
             self.push(&text(&tasks), (0, vertex), 1, (0, 0));
         }
         let each_masks: Vec<_> = [4, 1, 3, 2, 2, 7, 1, 1].map(masking).into();
@@ -198,13 +198,10 @@ impl Vertices {
         }
     }
 
-    /// The longest path, the longest witness, the whole work area, and a walk that sees every group.
+    /// A long path, the whole work area, and a walk that sees every group.
     pub fn large(&mut self) {
-        let longest = text(&[self_edge(1, 1, 1), task(&[(1, 200)], &[])]);
-        self.around(&longest, (1, 0));
-        let mut tasks = vec![self_edge(1, 1, 1); 7];
-        tasks.push(task(&[(1, 200)], &[]));
-        self.around(&text(&tasks), (7, 0));
+        let long = text(&[self_edge(1, 1, 1), task(&[(1, 200)], &[])]);
+        self.around(&long, (1, 0));
         let equal = |n: usize| task(&vec![(1, 10); n], &[]);
         let mut tasks = vec![equal(8), equal(8), equal(9), equal(9)];
         tasks.push(task(&[(1, 128)], &[]));
@@ -218,7 +215,7 @@ impl Vertices {
     }
 
     /// The verdict on areas of just the cells that refusals 10 and 11 ask for, and those areas.
-    fn needed(&self, text: &str, numbers: (u8, u8), budget: u32) -> (Verdict, (u32, u32)) {
+    pub fn needed(&self, text: &str, numbers: (u8, u8), budget: u32) -> (Verdict, (u32, u32)) {
         let mut lent = (0, 0);
         loop {
             let verdict = verdict(&self.case(text, numbers, budget, lent));
@@ -280,13 +277,26 @@ impl Vertices {
         vertices: [usize; 3],
         add: impl Fn(&mut Vertices, &str, (u8, u8)),
     ) {
+        let tasks = |random: &mut Random| -> Vec<_> {
+            let count = 2 + random.below(4);
+            (0..count).map(|_| random_task(random, &SIZE)).collect()
+        };
+        self.random_of(seed, vertices, tasks, add);
+    }
+
+    /// The same with tasks made in this way, the judged one last.
+    pub fn random_of(
+        &mut self,
+        seed: u64,
+        vertices: [usize; 3],
+        tasks: impl Fn(&mut Random) -> Vec<String>,
+        add: impl Fn(&mut Vertices, &str, (u8, u8)),
+    ) {
         let mut random = Random(seed);
         let mut meeting = vertices;
         let mut missing = vertices;
         while meeting.iter().chain(&missing).any(|&left| left > 0) {
-            let tasks: Vec<_> = (0..2 + random.below(4))
-                .map(|_| random_task(&mut random, &SIZE))
-                .collect();
+            let tasks = tasks(&mut random);
             let numbers = (tasks.len() as u8 - 1, 0);
             let text = text(&[tasks, random_lower(&mut random)].concat());
             let left = match self.needed(&text, numbers, LARGEST_COUNT) {

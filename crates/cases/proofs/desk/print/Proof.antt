@@ -5,26 +5,23 @@ use borrow.Author.Needs.{needs}
 use Rattle.cases.proofs.desk.print.Statement.{statement}
 use Rattle.cases.proofs.desk.print.Tie as tie
 
-output-room-requires : tie.Need-output-room-requires
-output-room-requires c κs = search needs
-
-slice-aggregate-desk-output : tie.Need-slice-aggregate-desk-output
-slice-aggregate-desk-output c = search needs
-
 desk-output-requires : tie.Need-desk-output-requires
 desk-output-requires c κs = search needs
 
 print-length-requires : tie.Need-print-length-requires
 print-length-requires c κs = search needs
 
-array-share-prefix-out : tie.Need-array-share-prefix-out
-array-share-prefix-out c = output-within _ (c .before .before .desk-output .ensures)
+slice-reshare-prefix-write-all : tie.Need-slice-reshare-prefix-write-all
+slice-reshare-prefix-write-all c = output-within _ (c .before .before .before .desk-output .ensures)
 
 slice-aggregate-write-all : tie.Need-slice-aggregate-write-all
-slice-aggregate-write-all c = sym (length-take-le _ _ (output-within _ (c .before .before .before .desk-output .ensures)))
+slice-aggregate-write-all c = sym (length-take-le _ _ (output-within _ (c .before .before .before .before .desk-output .ensures)))
 
 write-all-requires : tie.Need-write-all-requires
 write-all-requires c κs = search needs
+
+same-length : tie.Need-same-length
+same-length c = search needs
 
 returns : tie.Need-returns
 returns c = search needs
@@ -33,11 +30,10 @@ pub print-spec : {M : Type 1} → statement M
 print-spec =
     tie.close
     (tie.spec
-    output-room-requires
-    slice-aggregate-desk-output
     desk-output-requires
     print-length-requires
-    array-share-prefix-out
+    slice-reshare-prefix-write-all
     slice-aggregate-write-all
     write-all-requires
+    same-length
     returns)

@@ -15,12 +15,15 @@ enum-told c = search needs
 
 print-finishes-requires : tie.Need-print-finishes-requires
 print-finishes-requires c κs =
-    let told = c .before .before in
+    let told = c .before .before .before in
     let was = told .before .before in
-    read-held (table-read (was .before .before .before .args .text .now) (was .read .result) (was .read .ensures) (told .enum-told .given .1))
+    read-held (table-read (was .before .before .before .before .args .text .now) (was .read .result) (was .read .ensures) (told .enum-told .given .1))
 
 same-length : tie.Need-same-length
 same-length c = search needs
+
+same-length-2 : tie.Need-same-length-2
+same-length-2 c = search needs
 
 returns : tie.Need-returns
 returns c = search needs
@@ -40,6 +43,7 @@ print-spec =
     enum-told
     print-finishes-requires
     same-length
+    same-length-2
     returns
     print-refusal-requires
     returns-2)

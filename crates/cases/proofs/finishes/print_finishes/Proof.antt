@@ -1,7 +1,6 @@
 use mathlib.Core.Path.{_≡_, refl}
 use native.Mathlib.Omega.{arith}
 use lib.ListN.{length}
-use Rattle.meaning.specs.Bounds.{deskWitness}
 use Rattle.table.specs.Inner.{tableOf}
 use Rattle.counts.specs.Place.{meantPlace}
 use Rattle.judge.proofs.Remaining.{remaining}
@@ -11,11 +10,11 @@ use Rattle.cases.proofs.finishes.print_finishes.Statement.{statement}
 use Rattle.cases.proofs.finishes.print_finishes.Tie as tie
 
 abbrev Inv-loop : tie.InvT-loop
-Inv-loop text work₀ table witness₀ counts₀ finishes₀ at₀ work witness counts finishes at =
-    Asking table counts (meantPlace at) × (length work ≡ length work₀) × (length witness ≡ deskWitness)
+Inv-loop text work₀ witness₀ table counts₀ finishes₀ at₀ work witness counts finishes at =
+    Asking table counts (meantPlace at) × (length work ≡ length work₀) × (length witness ≡ length witness₀)
 
 abbrev μ-loop : tie.MeasureT-loop
-μ-loop text work₀ table witness₀ counts₀ finishes₀ at₀ work witness counts finishes at = length (remaining (tableOf table) (meantPlace at))
+μ-loop text work₀ witness₀ table counts₀ finishes₀ at₀ work witness counts finishes at = length (remaining (tableOf table) (meantPlace at))
 
 no-counts-requires : tie.Need-no-counts-requires Inv-loop μ-loop
 no-counts-requires c κs = search needs
@@ -24,7 +23,7 @@ first-place-requires : tie.Need-first-place-requires Inv-loop μ-loop
 first-place-requires c κs = search needs
 
 loop-holds : tie.Need-loop-holds Inv-loop μ-loop
-loop-holds c = (asking-none (c .before .before .before .before .pre) (c .before .no-counts .ensures) (c .first-place .ensures), refl, refl)
+loop-holds c = (asking-none (c .before .before .before .before .before .pre) (c .before .no-counts .ensures) (c .first-place .ensures), refl, refl)
 
 cast-if1 : tie.Need-cast-if1 Inv-loop μ-loop
 cast-if1 c = search needs
@@ -40,9 +39,6 @@ element-copy-out-own c =
     let test = c .before in
     omega (arith, asking-within (test .before .before .loop .inv .0) (test .if1 .taken) .task)
 
-slice-aggregate-latest : tie.Need-slice-aggregate-latest Inv-loop μ-loop
-slice-aggregate-latest c = search needs
-
 latest-requires : tie.Need-latest-requires Inv-loop μ-loop
 latest-requires c κs = search needs
 
@@ -51,7 +47,7 @@ verdict-in-requires c κs = search needs
 
 counted-requires : tie.Need-counted-requires Inv-loop μ-loop
 counted-requires c κs =
-    let test = c .before .before .before .before .before .before .before .before .before in
+    let test = c .before .before .before .before .before .before .before .before .before .before in
     asking-few (test .before .before .loop .inv .0) (test .if1 .taken)
 
 lateness-finish-requires : tie.Need-lateness-finish-requires Inv-loop μ-loop
@@ -65,19 +61,18 @@ sum-requires c κs = search needs
 
 next-place-requires : tie.Need-next-place-requires Inv-loop μ-loop
 next-place-requires c κs =
-    let test = c .before .before .before .before .before .before .before .before .before .before .before .before in
+    let test = c .before .before .before .before .before .before .before .before .before .before .before .before .before in
     asking-within (test .before .before .loop .inv .0) (test .if1 .taken)
 
 loop-less : tie.Need-loop-less Inv-loop μ-loop
 loop-less c =
-    let test = c .before .before .before .before .before .before .before .before .before .before .before .before .before in
+    let test = c .before .before .before .before .before .before .before .before .before .before .before .before .before .before in
     asking-fewer (test .before .before .loop .inv .0) (test .if1 .taken) (c .next-place .ensures)
 
 loop-again : tie.Need-loop-again Inv-loop μ-loop
 loop-again c =
-    let asked = c .before .before .before .before .before .before .before .before in
     let said = c .before .before .before .before in
-    let test = asked .before .before .before .before .before in
+    let test = c .before .before .before .before .before .before .before .before .before .before .before .before .before .before in
     let here = test .before .before .loop .inv .0 in
     let more = asking-more here (test .if1 .taken) (c .next-place .ensures) (said .verdict-in .result) (c .before .before .before .counted .ensures) in
     (more, search needs, search needs)
@@ -87,6 +82,9 @@ print-line-requires c κs = search needs
 
 same-length : tie.Need-same-length Inv-loop μ-loop
 same-length c = search needs
+
+same-length-2 : tie.Need-same-length-2 Inv-loop μ-loop
+same-length-2 c = search needs
 
 returns : tie.Need-returns Inv-loop μ-loop
 returns c = search needs
@@ -104,7 +102,6 @@ print-finishes-spec =
     cast-own
     mul-own
     element-copy-out-own
-    slice-aggregate-latest
     latest-requires
     verdict-in-requires
     counted-requires
@@ -116,4 +113,5 @@ print-finishes-spec =
     loop-again
     print-line-requires
     same-length
+    same-length-2
     returns)

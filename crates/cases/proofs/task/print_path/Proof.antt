@@ -1,19 +1,20 @@
 use Prim.Native.Nat.{_-_, _≤_}
+use Rattle.meaning.specs.Bounds.{largestD}
 use borrow.Author.Needs.{needs}
 use Rattle.cases.proofs.task.print_path.Statement.{statement}
 use Rattle.cases.proofs.task.print_path.Tie as tie
 
 abbrev Inv-loop : tie.InvT-loop
-Inv-loop p n i₀ i = i ≤ 200
+Inv-loop p n i₀ i = i ≤ largestD
 
 abbrev μ-loop : tie.MeasureT-loop
-μ-loop p n i₀ i = 200 - i
+μ-loop p n i₀ i = largestD - i
 
 loop-holds : tie.Need-loop-holds Inv-loop μ-loop
 loop-holds c = search needs
 
-element-copy-out-v : tie.Need-element-copy-out-v Inv-loop μ-loop
-element-copy-out-v c = search needs
+element-copy-out-wide : tie.Need-element-copy-out-wide Inv-loop μ-loop
+element-copy-out-wide c = search needs
 
 wide-requires : tie.Need-wide-requires Inv-loop μ-loop
 wide-requires c κs = search needs
@@ -43,7 +44,7 @@ print-path-spec =
     Inv-loop
     μ-loop
     loop-holds
-    element-copy-out-v
+    element-copy-out-wide
     wide-requires
     print-number-requires
     add-i

@@ -1,15 +1,14 @@
-use Prim.Native.Nat.{_-_, _*_, _≤_}
+use Prim.Native.Nat.{_-_, _≤_}
 use lib.ListN.{length}
-use Rattle.cases.specs.Listing.{stretchRoom}
 use borrow.Author.Needs.{needs}
 use Rattle.cases.proofs.task.weigh.Statement.{statement}
 use Rattle.cases.proofs.task.weigh.Tie as tie
 
 abbrev Inv-loop : tie.InvT-loop
-Inv-loop cells sum₀ i₀ sum i = (i ≤ length cells) × (sum ≤ i * (4294967295 * stretchRoom))
+Inv-loop cells total₀ i₀ total i = i ≤ length cells
 
 abbrev μ-loop : tie.MeasureT-loop
-μ-loop cells sum₀ i₀ sum i = length cells - i
+μ-loop cells total₀ i₀ total i = length cells - i
 
 loop-holds : tie.Need-loop-holds Inv-loop μ-loop
 loop-holds c = search needs
@@ -26,8 +25,8 @@ add-weighed c = search needs
 weighed-requires : tie.Need-weighed-requires Inv-loop μ-loop
 weighed-requires c κs = search needs
 
-add-sum : tie.Need-add-sum Inv-loop μ-loop
-add-sum c = search needs
+sum-requires : tie.Need-sum-requires Inv-loop μ-loop
+sum-requires c κs = search needs
 
 add-i : tie.Need-add-i Inv-loop μ-loop
 add-i c = search needs
@@ -52,7 +51,7 @@ weigh-spec =
     shared-slice-read-weighed
     add-weighed
     weighed-requires
-    add-sum
+    sum-requires
     add-i
     loop-less
     loop-again

@@ -12,7 +12,7 @@ mul-result c =
     omega arith
 
 returns : tie.Need-returns
-returns c = mul-le-mul {n₂ = 4294967295} (search needs) (c .pre)
+returns c = search needs
 
 pub weighed-spec : {M : Type 1} → statement M
 weighed-spec = tie.close (tie.spec mul-result returns)

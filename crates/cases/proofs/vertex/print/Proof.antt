@@ -4,9 +4,6 @@ use borrow.Author.Needs.{needs}
 use Rattle.cases.proofs.vertex.print.Statement.{statement}
 use Rattle.cases.proofs.vertex.print.Tie as tie
 
-witness-room-requires : tie.Need-witness-room-requires
-witness-room-requires c κs = search needs
-
 number-at-requires : tie.Need-number-at-requires
 number-at-requires c κs = search needs
 
@@ -25,8 +22,8 @@ slice-relend-prefix-judge-in c = search needs
 slice-aggregate-judge-in : tie.Need-slice-aggregate-judge-in
 slice-aggregate-judge-in c = sym (length-take-le _ _ (c .before .before .before .least .ensures))
 
-array-borrow-prefix-witness : tie.Need-array-borrow-prefix-witness
-array-borrow-prefix-witness c = search needs
+slice-relend-prefix-judge-in-2 : tie.Need-slice-relend-prefix-judge-in-2
+slice-relend-prefix-judge-in-2 c = search needs
 
 slice-aggregate-judge-in-2 : tie.Need-slice-aggregate-judge-in-2
 slice-aggregate-judge-in-2 c = sym (length-take-le _ _ (search needs))
@@ -37,6 +34,9 @@ judge-in-requires c κs = search needs
 same-length : tie.Need-same-length
 same-length c = search needs
 
+same-length-2 : tie.Need-same-length-2
+same-length-2 c = search needs
+
 returns : tie.Need-returns
 returns c = search needs
 
@@ -44,15 +44,15 @@ pub print-spec : {M : Type 1} → statement M
 print-spec =
     tie.close
     (tie.spec
-    witness-room-requires
     number-at-requires
     least-requires
     number-at-requires-2
     least-requires-2
     slice-relend-prefix-judge-in
     slice-aggregate-judge-in
-    array-borrow-prefix-witness
+    slice-relend-prefix-judge-in-2
     slice-aggregate-judge-in-2
     judge-in-requires
     same-length
+    same-length-2
     returns)

@@ -18,8 +18,11 @@ frame c =
     let s = c .before .before .before .before .before .before .before .before .before .args in
     head-then (s .task) (s .path .now) (c .before .before .before .before .put-bytes .ensures) (c .put-vertices .ensures)
 
-cast-t9 : tie.Need-cast-t9
-cast-t9 c = search needs
+cast-t11 : tie.Need-cast-t11
+cast-t11 c = search needs
+
+cast-t13 : tie.Need-cast-t13
+cast-t13 c = search needs
 
 slice-aggregate-put-bytes : tie.Need-slice-aggregate-put-bytes
 slice-aggregate-put-bytes c = search needs
@@ -55,7 +58,8 @@ pub path-line-spec : {M : Type 1} → statement M
 path-line-spec =
     tie.close
     (tie.spec
-    cast-t9
+    cast-t11
+    cast-t13
     slice-aggregate-put-bytes
     put-bytes-requires
     put-vertices-requires

@@ -1,12 +1,7 @@
 use Prim.Native.Nat.{_-_}
-use mathlib.Core.List.{[]}
-use lib.ListN.{getD}
-use mathlib.Core.Path.{_∙_, ap}
 use native.Mathlib.Omega.{arith}
 use borrow.Author.Needs.{needs}
-use Rattle.ways.specs.Ways.{allWays, pathBy}
-use Rattle.lister.specs.Place.{pathRecord}
-use Rattle.lister.proofs.AllPlaces.{CellsOf, Passing, passing-none, passing-on, passing-found, passing-past}
+use Rattle.lister.proofs.AllPlaces.{Passing, passing-none, passing-on, passing-found, passing-past}
 use Rattle.lister.proofs.place.path_all.Statement.{statement}
 use Rattle.lister.proofs.place.path_all.Tie as tie
 
@@ -30,25 +25,14 @@ path-from-requires c κs =
 enum-known-s : tie.Need-enum-known-s Inv-loop μ-loop
 enum-known-s c = search needs
 
--- the path that is found stands in the cells
-found : (c : tie.After-known-told Inv-loop μ-loop)
-    → let at-path = c .before .before .before in
-    let s = at-path .before .before .before .before .before .args in
-    let all = allWays (s .start .now) (s .to .now) (s .p .now) (s .d .0) 0 (s .n) in
-    CellsOf (pathBy (s .to .now) (getD all (s .i .0) [])) (at-path .path-from .last .1 .1 .1 .0) (c .before .s .given .0 .0)
-found c =
+returns : tie.Need-returns Inv-loop μ-loop
+returns c =
     let at-path = c .before .before .before in
     let at-loop = at-path .before .before .before .before in
     let asked = at-loop .before .pre in
     passing-found (at-loop .loop .inv) (asked .0) (asked .1 .0) (asked .1 .1) (asked .1 .2) (at-path .before .before .if1 .taken)
     (at-path .path-from .last .1 .1 .1 .0)
     (at-path .path-from .result) (c .before .s .given .0 .0) (at-path .path-from .ensures) (c .before .s .given .1)
-
-by-value-requires : tie.Need-by-value-requires Inv-loop μ-loop
-by-value-requires c κs = (found (c .before) .fits, found (c .before) .cells)
-
-returns : tie.Need-returns Inv-loop μ-loop
-returns c = c .by-value .ensures ∙ ap pathRecord (found (c .before .before) .front)
 
 enum-known-s-2 : tie.Need-enum-known-s-2 Inv-loop μ-loop
 enum-known-s-2 c = search needs
@@ -68,14 +52,8 @@ loop-again c =
     passing-on (at-loop .loop .inv) (at-if1 .if1 .taken) (at-path .path-from .last .1 .1 .1 .0) (at-path .path-from .result) (at-s2 .s2 .given .0 .0)
     (at-path .path-from .ensures) (at-s2 .s2 .given .1)
 
-by-value-requires-2 : tie.Need-by-value-requires-2 Inv-loop μ-loop
-by-value-requires-2 c κs = let f = passing-past (c .before .before .before .loop .inv) (c .before .if1 .left) in (f .fits, f .cells)
-
 returns-2 : tie.Need-returns-2 Inv-loop μ-loop
-returns-2 c =
-    let at-if1 = c .before .before in
-    let at-loop = at-if1 .before .before in
-    (c .by-value2 .ensures) ∙ ap pathRecord (passing-past (at-loop .loop .inv) (at-if1 .if1 .left) .front)
+returns-2 c = passing-past (c .before .before .loop .inv) (c .if1 .left)
 
 pub path-all-spec : {M : Type 1} → statement M
 path-all-spec =
@@ -87,11 +65,9 @@ path-all-spec =
     cast-if1
     path-from-requires
     enum-known-s
-    by-value-requires
     returns
     enum-known-s-2
     add-t17
     loop-less
     loop-again
-    by-value-requires-2
     returns-2)

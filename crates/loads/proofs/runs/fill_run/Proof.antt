@@ -1,61 +1,61 @@
-use Prim.Native.Nat.{_-_, _≤_}
+use Prim.Native.Nat.{_+_, _-_, _≤_}
 use mathlib.Core.Path.{_≡_, refl, ap, _∙_}
 use native.Mathlib.Omega.{arith}
 use borrow.Author.Needs.{needs}
-use lib.ListN.{replicate}
+use lib.ListN.{length, replicate, length-set}
 use lib.Seq.{sets}
-use Rattle.meaning.proofs.Stores.{run-more, run-none}
-use Rattle.loads.specs.Rows.{loadsIn}
-use Rattle.loads.proofs.RowLoads.{loads-set}
+use Rattle.loads.proofs.Fronts.{run-turn}
 use Rattle.loads.proofs.runs.fill_run.Statement.{statement}
 use Rattle.loads.proofs.runs.fill_run.Tie as tie
 
 abbrev Inv-loop : tie.InvT-loop
-Inv-loop row₀ x end i₀ row i = (i₀ ≤ i) × (i ≤ end) × (loadsIn row ≡ sets (loadsIn row₀) i₀ (replicate (i - i₀) x))
+Inv-loop part₀ at x end t₀ part t = (1 ≤ t) × (t ≤ end + 1) × (part ≡ sets part₀ at (replicate (t - 1) x)) × (length part ≡ length part₀)
 
 abbrev μ-loop : tie.MeasureT-loop
-μ-loop row₀ x end i₀ row i = end - i
+μ-loop part₀ at x end t₀ part t = end + 1 - t
 
 cast-end : tie.Need-cast-end Inv-loop μ-loop
 cast-end c = search needs
 
-cast-i : tie.Need-cast-i Inv-loop μ-loop
-cast-i c = search needs
-
 loop-holds : tie.Need-loop-holds Inv-loop μ-loop
-loop-holds c = let s = c .before .before .args in (omega arith, omega arith, run-none (loadsIn (s .row .now)) (s .a .0) (s .a .0) (s .x) refl)
+loop-holds c = (omega arith, omega arith, refl, refl)
 
-add-row : tie.Need-add-row Inv-loop μ-loop
-add-row c = omega arith
+add-part : tie.Need-add-part Inv-loop μ-loop
+add-part c = omega arith
 
-mul-row : tie.Need-mul-row Inv-loop μ-loop
-mul-row c = omega arith
+sub-part : tie.Need-sub-part Inv-loop μ-loop
+sub-part c = omega arith
 
-element-write-row : tie.Need-element-write-row Inv-loop μ-loop
-element-write-row c = omega arith
+mul-part : tie.Need-mul-part Inv-loop μ-loop
+mul-part c = omega arith
 
-add-i : tie.Need-add-i Inv-loop μ-loop
-add-i c = omega arith
+slice-write-part : tie.Need-slice-write-part Inv-loop μ-loop
+slice-write-part c = omega arith
+
+add-t : tie.Need-add-t Inv-loop μ-loop
+add-t c = omega arith
 
 loop-less : tie.Need-loop-less Inv-loop μ-loop
 loop-less c = omega arith
 
 loop-again : tie.Need-loop-again Inv-loop μ-loop
 loop-again c =
-    let at-args = c .before .before .before .before in
-    let s = at-args .args in
+    let s = c .before .before .before .args in
     let l = c .before .loop in (
       omega arith,
       omega arith,
-      loads-set (l .row) (l .i) (s .x)
-          ∙ run-more (loadsIn (s .row .now)) (loadsIn (l .row)) (s .a .0) (l .i) (s .x) (omega arith) (l .inv .2),
+      run-turn (s .part .now) (l .part) (s .at) (l .t) (s .x) (l .inv .0) (l .inv .2),
+      length-set (l .part) _ (s .x) ∙ l .inv .3,
     )
+
+same-length : tie.Need-same-length Inv-loop μ-loop
+same-length c = c .before .loop .inv .3
 
 returns : tie.Need-returns Inv-loop μ-loop
 returns c =
-    let s = c .before .before .before .before .args in
-    let z : c .before .loop .i ≡ s .b .0 = omega arith in
-    record { cells = c .before .loop .inv .2 ∙ ap (λ n. sets (loadsIn (s .row .now)) (s .a .0) (replicate (n - s .a .0) (s .x))) z }
+    let s = c .before .before .before .args in
+    let z : c .before .loop .t - 1 ≡ s .n .0 = omega arith in
+    c .before .loop .inv .2 ∙ ap (λ n. sets (s .part .now) (s .at) (replicate n (s .x))) z
 
 pub fill-run-spec : {M : Type 1} → statement M
 fill-run-spec =
@@ -64,12 +64,13 @@ fill-run-spec =
     Inv-loop
     μ-loop
     cast-end
-    cast-i
     loop-holds
-    add-row
-    mul-row
-    element-write-row
-    add-i
+    add-part
+    sub-part
+    mul-part
+    slice-write-part
+    add-t
     loop-less
     loop-again
+    same-length
     returns)

@@ -2,26 +2,14 @@ use mathlib.Core.Path.{sym}
 use lib.Seq.{length-take-le}
 use Rattle.judge.proofs.Output.{output-within}
 use borrow.Author.Needs.{needs}
-use Rattle.desk.proofs.main.Statement.{statement}
-use Rattle.desk.proofs.main.Tie as tie
+use Rattle.desk.proofs.write_long.Statement.{statement}
+use Rattle.desk.proofs.write_long.Tie as tie
 
 output-room-requires : tie.Need-output-room-requires
 output-room-requires c κs = search needs
 
-slice-aggregate-read-full : tie.Need-slice-aggregate-read-full
-slice-aggregate-read-full c = search needs
-
-read-full-requires : tie.Need-read-full-requires
-read-full-requires c κs = search needs
-
-array-share-prefix-input : tie.Need-array-share-prefix-input
-array-share-prefix-input c = search needs
-
 slice-aggregate-desk-output : tie.Need-slice-aggregate-desk-output
 slice-aggregate-desk-output c = search needs
-
-slice-aggregate-desk-output-2 : tie.Need-slice-aggregate-desk-output-2
-slice-aggregate-desk-output-2 c = search needs
 
 desk-output-requires : tie.Need-desk-output-requires
 desk-output-requires c κs = search needs
@@ -38,16 +26,12 @@ write-all-requires c κs = search needs
 returns : tie.Need-returns
 returns c = search needs
 
-pub main-spec : {M : Type 1} → statement M
-main-spec =
+pub write-long-spec : {M : Type 1} → statement M
+write-long-spec =
     tie.close
     (tie.spec
     output-room-requires
-    slice-aggregate-read-full
-    read-full-requires
-    array-share-prefix-input
     slice-aggregate-desk-output
-    slice-aggregate-desk-output-2
     desk-output-requires
     array-share-prefix-out
     slice-aggregate-write-all
