@@ -7,7 +7,7 @@ use bounds::{MOST_HIGHER, PerTask};
 use kinds::Ticks;
 
 // Of the tasks counted so far: how many paths each has, where its stretch begins, zeros behind them; and how many rows they have in all.
-#[derive(Drop)]
+#[derive(Clone, Copy)]
 pub struct Above {
     pub counts: PerTask,
     pub roots: PerTask,

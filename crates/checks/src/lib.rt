@@ -17,14 +17,14 @@ use rules::{
 };
 use table::{Edge, Table, Task, Vertex};
 
-#[derive(Drop)]
+#[derive(Clone, Copy)]
 pub enum Check {
     Kept,
     Broken(RefusedAt),
 }
 
 // The bytes of the text where no rule is broken, else 0.
-#[derive(Drop)]
+#[derive(Clone, Copy)]
 pub struct Checked {
     pub check: Check,
     pub bytes: usize,

@@ -13,7 +13,7 @@ use numbers::index;
 use table::{Task, Vertex};
 
 // The edges out of v are those from start[v] up to start[v + 1]; each leads to `to` and has separation `p`.
-#[derive(Drop)]
+#[derive(Clone, Copy)]
 pub struct Columns {
     pub e: [u16; MOST_VERTICES],
     pub start: [u8; MOST_VERTICES + 1],

@@ -11,7 +11,7 @@ ghost use Rattle.counts.specs.Inner.{total, no_counts, one_more};
 use kinds::Verdict;
 
 // Of a table's vertices, at most 96 in all: how many meet, miss, are unfinished and are refused.
-#[derive(Drop)]
+#[derive(Clone, Copy)]
 pub struct Counts {
     pub meeting: u8,
     pub missing: u8,

@@ -4,7 +4,7 @@ ghost use Rattle.counts.specs.Place.{meant_place, first_place, next_place, Withi
 
 use kinds::{TaskNumber, VertexNumber};
 
-#[derive(Drop)]
+#[derive(Clone, Copy)]
 pub struct Place {
     pub task: TaskNumber,
     pub vertex: VertexNumber,

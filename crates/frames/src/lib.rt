@@ -37,7 +37,7 @@ pub const LINK_BYTES: usize = LINK_DIGITS + 1;
 pub const END_BYTES: usize = END_DIGITS + 1;
 
 // How a task is described.
-#[derive(Drop)]
+#[derive(Clone, Copy)]
 pub enum Form {
     Plain,
     Ring,
@@ -45,7 +45,7 @@ pub enum Form {
 }
 
 // What a task's line says: how the task is described, and of the plain task how many vertices and edges it has, and its masked length.
-#[derive(Drop)]
+#[derive(Clone, Copy)]
 pub struct Head {
     pub form: Form,
     pub v: usize,
@@ -54,27 +54,27 @@ pub struct Head {
 }
 
 // What a line gives.
-#[derive(Drop)]
+#[derive(Clone, Copy)]
 pub enum VertexLine {
     VertexTaken(Vertex),
     VertexRefused(Refusal),
 }
 
-#[derive(Drop)]
+#[derive(Clone, Copy)]
 pub enum EdgeLine {
     EdgeTaken(Edge),
     EdgeRefused(Refusal),
 }
 
 // A vertex of a ring or a gear table, and the separation from it to the one that it leads to.
-#[derive(Drop)]
+#[derive(Clone, Copy)]
 pub enum LinkLine {
     LinkTaken(Vertex, Ticks),
     LinkRefused(Refusal),
 }
 
 // After whole tasks: another task's frame, or the end frame.
-#[derive(Drop)]
+#[derive(Clone, Copy)]
 pub enum TaskOrEndLine {
     TaskTaken(Head),
     EndTaken,

@@ -33,7 +33,7 @@ use sheet::{input_too_long, no_such, no_such_vertex};
 use table::Table;
 
 // A table that is readable has its four counts.
-#[derive(Drop)]
+#[derive(Clone, Copy)]
 pub enum TableVerdict {
     Counted(Counts),
     Refused(RefusedAt),

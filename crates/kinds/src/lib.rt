@@ -4,13 +4,13 @@
 ghost use Rattle.std.specs.Prelude.{◌≡◌, min, max, get_or};
 ghost use Rattle.kinds.specs.Numbers.{refusal_number, verdict_numbers, verdict_in, lateness_numbers};
 
-#[derive(Drop)]
+#[derive(Clone, Copy)]
 pub struct Ticks(pub u16);
 
-#[derive(Drop)]
+#[derive(Clone, Copy)]
 pub struct TaskNumber(pub u8);
 
-#[derive(Drop)]
+#[derive(Clone, Copy)]
 pub struct VertexNumber(pub u8);
 
 // A number in the width of a task's or a vertex's number: 255 stands for every number above it, since no table has so many tasks and no task so many
@@ -34,7 +34,7 @@ pub fn longer(a: Ticks, b: Ticks) -> Ticks
 }
 
 // The rows of the refusal sheet, in its order.
-#[derive(Drop)]
+#[derive(Clone, Copy)]
 pub enum Refusal {
     BadLine,
     WrongFrame,
@@ -52,14 +52,14 @@ pub enum Refusal {
 }
 
 // The refusal, and what is returned with it: a line, a task, the cells or bytes needed, or zero.
-#[derive(Drop)]
+#[derive(Clone, Copy)]
 pub struct RefusedAt {
     pub refusal: Refusal,
     pub place: u32,
 }
 
 // Meets with C; misses with C and the cells written; unfinished with the budget.
-#[derive(Drop)]
+#[derive(Clone, Copy)]
 pub enum Verdict {
     Meets(u32),
     Misses(u32, u32),
@@ -68,7 +68,7 @@ pub enum Verdict {
 }
 
 // "How late is the latest?" Beside a meets, the worst finish and the cells written.
-#[derive(Drop)]
+#[derive(Clone, Copy)]
 pub enum Lateness {
     Meets(u32, Ticks, u32),
     Misses(u32, u32),

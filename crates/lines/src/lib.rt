@@ -23,21 +23,21 @@ use rules::{least_after, mask_covered};
 use table::{Edge, Task, Vertex};
 
 // Whether all lines of a part were taken, or the refusal of the first that was not.
-#[derive(Drop)]
+#[derive(Clone, Copy)]
 pub enum Outcome {
     AllTaken,
     StoppedBy(Refusal),
 }
 
 // `count` lines were taken.
-#[derive(Drop)]
+#[derive(Clone, Copy)]
 pub struct VertexLines {
     pub outcome: Outcome,
     pub count: usize,
     pub vertices: [Vertex; MOST_VERTICES],
 }
 
-#[derive(Drop)]
+#[derive(Clone, Copy)]
 pub struct EdgeLines {
     pub outcome: Outcome,
     pub count: usize,
@@ -45,7 +45,7 @@ pub struct EdgeLines {
 }
 
 // The lines after a task's own, and their bytes. No task where they stop.
-#[derive(Drop)]
+#[derive(Clone, Copy)]
 pub struct TaskLines {
     pub outcome: Outcome,
     pub count: usize,

@@ -9,7 +9,7 @@ use columns::numbers::index;
 use kinds::{Ticks, VertexNumber};
 
 // A vertex, and the ticks left there.
-#[derive(Drop)]
+#[derive(Clone, Copy)]
 pub(crate) struct Reached {
     pub v: VertexNumber,
     pub r: Ticks,

@@ -9,12 +9,12 @@ pub mod place;
 use bounds::LARGEST_D;
 
 // The place of a path in that order, from 0.
-#[derive(Drop)]
+#[derive(Clone, Copy)]
 pub struct PathNumber(pub usize);
 
 // A path kept by value: its vertex numbers, a byte each, zeros behind them, and how many they are. As in a task's columns they are plain numbers, so that
 // the array can be lent.
-#[derive(Drop)]
+#[derive(Clone, Copy)]
 pub struct Path {
     pub vertices: [u8; LARGEST_D],
     pub len: usize,

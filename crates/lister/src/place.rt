@@ -11,7 +11,7 @@ use columns::numbers::index;
 use kinds::{Ticks, VertexNumber};
 
 // The path is among those from a vertex: its length. It is behind them: its place there.
-#[derive(Drop)]
+#[derive(Clone, Copy)]
 enum Sought {
     Here(usize),
     Behind(PathNumber),

@@ -10,7 +10,7 @@ use columns::numbers::{execution, index};
 use kinds::{Ticks, VertexNumber};
 
 // A vertex, the span up to it, and the total e up to there, without its own.
-#[derive(Drop)]
+#[derive(Clone, Copy)]
 pub(crate) struct Begun {
     pub v: VertexNumber,
     pub span: Ticks,

@@ -14,14 +14,14 @@ use kinds::{Refusal, RefusedAt};
 use lines::Outcome;
 use table::Table;
 
-#[derive(Drop)]
+#[derive(Clone, Copy)]
 pub enum Status {
     Readable,
     Refused(RefusedAt),
 }
 
 // The table of a readable text, the empty table of a refused one. It stands first, where no gap is before it, so that it is copied once.
-#[derive(Drop)]
+#[derive(Clone, Copy)]
 pub struct Reading {
     pub table: Table,
     pub status: Status,

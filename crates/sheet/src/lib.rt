@@ -12,7 +12,7 @@ use kinds::{Lateness, Refusal, RefusedAt, TaskNumber, Ticks};
 use walk::Ending;
 
 // Whether the rows on the areas let a vertex be judged.
-#[derive(Drop)]
+#[derive(Clone, Copy)]
 pub enum AreaRows {
     Passed,
     Refused(RefusedAt),

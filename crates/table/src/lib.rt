@@ -8,13 +8,13 @@ ghost use Rattle.table.specs.Inner.{largest_of, no_table};
 use bounds::{MOST_EDGES, MOST_TASKS, MOST_VERTICES};
 use kinds::{Ticks, VertexNumber};
 
-#[derive(Drop)]
+#[derive(Clone, Copy)]
 pub struct Vertex {
     pub e: Ticks,
     pub d: Ticks,
 }
 
-#[derive(Drop)]
+#[derive(Clone, Copy)]
 pub struct Edge {
     pub from: VertexNumber,
     pub to: VertexNumber,
@@ -22,7 +22,7 @@ pub struct Edge {
 }
 
 // nv vertices and ne edges, with the masked length m; only `task_of` makes one.
-#[derive(Drop)]
+#[derive(Clone, Copy)]
 pub struct Task {
     pub m: Ticks,
     pub nv: u16,
@@ -32,7 +32,7 @@ pub struct Task {
 }
 
 // n tasks.
-#[derive(Drop)]
+#[derive(Clone, Copy)]
 pub struct Table {
     pub n: usize,
     pub tasks: [Task; MOST_TASKS],

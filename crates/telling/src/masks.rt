@@ -5,7 +5,7 @@ use kinds::{TaskNumber, Ticks};
 use table::Table;
 
 // No ticks where no lower task has a masked length.
-#[derive(Drop)]
+#[derive(Clone, Copy)]
 pub struct Masked {
     pub ticks: u32,
     pub task: u32,

@@ -11,7 +11,7 @@ use kinds::{RefusedAt, Ticks, Verdict};
 use table::{Table, Vertex};
 
 // How late a meets is at worst, and how many witness cells its paths have. A finish of 0 wasn't found within the budget.
-#[derive(Drop)]
+#[derive(Clone, Copy)]
 pub struct Worst {
     pub finish: u32,
     pub cells: u32,

@@ -19,7 +19,7 @@ use groups::{first_child, next_group, top_group};
 use overload::finish;
 
 // What examining a group says: there is a next one, it was the last, or it is the witness.
-#[derive(Drop)]
+#[derive(Clone, Copy)]
 pub(crate) enum Examined {
     Next,
     Last,
@@ -27,7 +27,7 @@ pub(crate) enum Examined {
 }
 
 // Meets or misses with the number of groups examined; unfinished with the budget.
-#[derive(Drop)]
+#[derive(Clone, Copy)]
 pub enum Ending {
     Meets(u32),
     Misses(u32),
@@ -36,7 +36,7 @@ pub enum Ending {
 
 // On a miss the places of the witness's paths, one for each higher task; else those of the choice that raised the bar, or zeros. On a meets the tick where
 // the bar is, else 0.
-#[derive(Drop)]
+#[derive(Clone, Copy)]
 pub struct Walked {
     pub ending: Ending,
     pub finish: u32,

@@ -11,7 +11,7 @@ use table::Table;
 use text::put_table;
 
 // Written, with the number of bytes; or refused.
-#[derive(Drop)]
+#[derive(Clone, Copy)]
 pub enum Written {
     Bytes(usize),
     Refused(RefusedAt),
