@@ -25,11 +25,11 @@ use Rattle.frames.specs.Frames.{task_vertices, task_edges, task_mask, end_line, 
 use Rattle.rules.specs.Rules.{task_in, vertex_in, edge_in, link_in, job_in_time, edge_spaced, edge_after}
 
 -- a call gave b for the test x, and the code went on, or left, at `!b`
-pub held : {b x : Bool} → b ≡ x → not b ≡ false → x ≡ true
-held {b} e h = sym e ∙ not-false b h
+pub held : {b x : Bool} → b ≡ x → b ≡ true → x ≡ true
+held e h = sym e ∙ h
 
-pub failed : {b x : Bool} → b ≡ x → not b ≡ true → x ≡ false
-failed {b} e h = sym e ∙ not-true b h
+pub failed : {b x : Bool} → b ≡ x → b ≡ false → x ≡ false
+failed e h = sym e ∙ h
 
 -- ---- the refusal of a line
 
