@@ -30,39 +30,11 @@ use Rattle.lines.proofs.Turns.{lent, lent-drop}
 
 -- ---- where a vertex leads
 
--- by the numbers in the enum: no ring
-pub to_itself : (o : Form) (n i : ℕ) → (tag_of the_type o ≡ 0) ⊎ (tag_of the_type o ≡ 2) → i ≡ form_to o n i
-to_itself Plain n i h = refl
-to_itself Ring n i (inl q) = absurd (omega (arith, q))
-to_itself Ring n i (inr q) = absurd (omega (arith, q))
-to_itself Gears n i h = refl
-
-pub to_next : {o : Form} (n i : ℕ) → o ≡ Ring → i + 1 < n → i + 1 ≡ form_to o n i
-to_next n i q h =
-    let next : i + 1 ≡ suc i = omega arith in
-    rw (q, lt-ltb (suc i) n (omega arith)) next
-
-pub to_first : {o : Form} (n i : ℕ) → o ≡ Ring → n ≤ i + 1 → 0 ≡ form_to o n i
-to_first n i q h = rw (q, le-ltb (suc i) n (omega arith))
-
-pub to_in : (o : Form) (n i : ℕ) → i < n → form_to o n i < n
-to_in Plain n i h = h
-to_in Ring n i h = ring_leads n i h
-to_in Gears n i h = h
-
--- ---- by the task's own line
-
-pub plain_lines_lem : (h : Head) (t : List ℕ) → h.form ≡ Plain → plain_lines h.v h.e h.m t ≡ task_lines h t
-plain_lines_lem h t q = rw q
-
--- by the numbers in the enum: no plain task
-pub linked_lines : (h : Head) (t : List ℕ) → (tag_of the_type h.form ≡ 1) ⊎ (tag_of the_type h.form ≡ 2)
-    → link_lines (form_to h.form h.v) h.v t ≡ task_lines h t
-linked_lines h t tag = go h.form tag
+pub linked_lines : (h : Head) (t : List ℕ) → (h.form ≡ Plain → ⊥) → link_lines (form_to h.form h.v) h.v t ≡ task_lines h t
+linked_lines h t q = go h.form q
   where
-    go : (o : Form) → (tag_of the_type o ≡ 1) ⊎ (tag_of the_type o ≡ 2) → link_lines (form_to o h.v) h.v t ≡ form_lines o h.v h.e h.m t
-    go Plain (inl q) = absurd (omega (arith, q))
-    go Plain (inr q) = absurd (omega (arith, q))
+    go : (o : Form) → (o ≡ Plain → ⊥) → link_lines (form_to o h.v) h.v t ≡ form_lines o h.v h.e h.m t
+    go Plain q = absurd (q refl)
     go Ring q = refl
     go Gears q = refl
 

@@ -9,5 +9,5 @@ pub returns : goal.returns
 returns c =
     let put = c.put_line in
     let s = c.args in
-    subst (λ (k : ℕ). Wrote (line (refusal_frame k s.refused.place)) s.out.now s.at put.new.0 put.result)
+    subst (λ (k : ℕ). Wrote (line (refusal_frame k s.refused.place)) s.out.now s.at put.new.out put.result)
     c.refusal_number.ensures put.ensures

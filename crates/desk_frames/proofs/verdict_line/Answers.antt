@@ -10,5 +10,5 @@ pub returns : goal.returns
 returns c =
     let put = c.put_line in
     let s = c.args in
-    subst₂ (λ (k n : ℕ). Wrote (line (verdict_frame (place_of s.task s.vertex) k n)) s.out.now s.at put.new.0 put.result)
+    subst₂ (λ (k n : ℕ). Wrote (line (verdict_frame (place_of s.task s.vertex) k n)) s.out.now s.at put.new.out put.result)
     c.verdict_number-kind.ensures c.verdict_value-count.ensures put.ensures

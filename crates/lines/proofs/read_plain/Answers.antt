@@ -6,7 +6,7 @@ use mathlib.Core.Path.{◌≡◌, sym, ap, ◌∙◌}
 use mathlib.Core.Bool.{true}
 use native.Mathlib.Omega.{arith}
 use Rattle.lines.proofs.read_plain.Goals as goal
-use Rattle.lines.proofs.read_plain.Goals.{After-mask_covered, After-read_edges-b, After-read_vertices-a, Else-not-mask_covered}
+use Rattle.lines.proofs.read_plain.Goals.{After-mask_covered, After-read_edges-b, After-read_vertices-a}
 
 vertices : (c : After-read_vertices-a) →
     let a = c.args in
@@ -19,16 +19,16 @@ test : (c : After-mask_covered) →
     c.mask_covered.result ≡ covers a.v a.m c.read_vertices-a.result.vertices
 test c = mask_tested _ _ _ _ _ c.mask_covered.ensures c.largest_e-largest.ensures (omega arith)
 
-covered : (c : Else-not-mask_covered) →
-    let a = c.args in
-    covers a.v a.m c.read_vertices-a.result.vertices ≡ true
-covered c = sym (test c.before) ∙ c.if-not-mask_covered.false
-
 edges : (c : After-read_edges-b) →
     let a = c.args in
     EdgesSeen a.text.now a.from a.v a.e a.m c.read_vertices-a.result c.read_edges-b.result
 edges c =
-    record { vertices = vertices c.before.before.before.before.before.before.before.before.before; c.before.before.before.before.before.before.before = c.in_default.is; covered = covered c.before; gives = c.read_edges-b.ensures }
+    record {
+      vertices = record { fits = c.requires.0; gives = c.read_vertices-a.ensures };
+      all = c.in_default.is;
+      covered = sym (mask_tested _ _ _ _ _ c.mask_covered.ensures c.largest_e-largest.ensures (omega arith)) ∙ c.if-not-mask_covered.false;
+      gives = c.read_edges-b.ensures;
+    }
 
 pub returns-in-StoppedBy : goal.returns-in-StoppedBy
 returns-in-StoppedBy c =

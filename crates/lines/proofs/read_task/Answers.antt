@@ -6,4 +6,4 @@ pub returns-in-Plain : goal.returns-in-Plain
 returns-in-Plain c = c.read_plain.ensures ∙ plain_lines_lem c.args.head _ c.in-Plain.is
 
 pub returns : goal.returns
-returns c = c.read_links.ensures ∙ linked_lines c.args.head _ c.in_default.keys2
+returns c = c.read_links.ensures ∙ linked_lines c.args.head _ c.in_default.not-Plain

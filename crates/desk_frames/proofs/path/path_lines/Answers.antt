@@ -25,6 +25,15 @@ offset_bounds-cells-from c = omega (arith, inside c.loop-i.invariant (search rul
 pub slice_bounds-path_line-count : goal.slice_bounds-path_line-count
 slice_bounds-path_line-count c = omega (arith, inside c.loop-i.invariant (search rules))
 
+pub slice_bounds-path_line-start : goal.slice_bounds-path_line-start
+slice_bounds-path_line-start c = omega (arith, inside c.loop-i.invariant (search rules))
+
+pub slice_bounds-path_line-end : goal.slice_bounds-path_line-end
+slice_bounds-path_line-end c =
+    let read = c.wide in
+    let next = ahead c.loop-i.invariant (search rules) read.result read.ensures in
+    omega (arith, next.long)
+
 pub path_line-next-requires : goal.path_line-next-requires
 path_line-next-requires c =
     let read = c.wide in
