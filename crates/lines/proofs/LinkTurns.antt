@@ -1,5 +1,4 @@
 -- One turn of the loop over the lines of a ring's or a gear table's vertices, and where a vertex leads.
-use denote.Enum.Declared.{tag_of}
 use mathlib.Core.Path.{◌≡◌, refl, sym, ap, ◌∙◌}
 use Prim.Native.Nat.{ℕ, suc, ◌+◌, ◌-◌, ◌*◌, ◌≤◌, ◌<◌}
 use native.Mathlib.Omega.{arith}
@@ -17,7 +16,6 @@ use Rattle.table.specs.declared.Edge.{Edge}
 use Rattle.table.specs.Record.{task_cells, no_vertex, no_edge}
 use Rattle.table.specs.Inner.{ticks, edge_cells}
 use Rattle.frames.specs.declared.Form.{Form}
-use Rattle.frames.specs.contracts.Form.{the_type}
 use Rattle.frames.specs.declared.Form.TheVariants.{Plain, Ring, Gears}
 use Rattle.frames.specs.declared.Head.{Head}
 use Rattle.frames.specs.declared.LinkLine.{LinkLine}
@@ -30,13 +28,36 @@ use Rattle.lines.proofs.Turns.{lent, lent-drop}
 
 -- ---- where a vertex leads
 
+pub to_itself : (o : Form) (n i : ℕ) → (o ≡ Ring → ⊥) → i ≡ form_to o n i
+to_itself Plain n i h = refl
+to_itself Ring n i h = absurd (h refl)
+to_itself Gears n i h = refl
+
+pub to_next : {o : Form} (n i : ℕ) → o ≡ Ring → i + 1 < n → i + 1 ≡ form_to o n i
+to_next n i q h =
+    let next : i + 1 ≡ suc i = omega arith in
+    rw (q, lt-ltb (suc i) n (omega arith)) next
+
+pub to_first : {o : Form} (n i : ℕ) → o ≡ Ring → n ≤ i + 1 → 0 ≡ form_to o n i
+to_first n i q h = rw (q, le-ltb (suc i) n (omega arith))
+
+pub to_in : (o : Form) (n i : ℕ) → i < n → form_to o n i < n
+to_in Plain n i h = h
+to_in Ring n i h = ring_leads n i h
+to_in Gears n i h = h
+
+-- ---- by the task's own line
+
+pub plain_lines_lem : (h : Head) (t : List ℕ) → h.form ≡ Plain → plain_lines h.v h.e h.m t ≡ task_lines h t
+plain_lines_lem h t q = rw q
+
 pub linked_lines : (h : Head) (t : List ℕ) → (h.form ≡ Plain → ⊥) → link_lines (form_to h.form h.v) h.v t ≡ task_lines h t
 linked_lines h t q = go h.form q
   where
     go : (o : Form) → (o ≡ Plain → ⊥) → link_lines (form_to o h.v) h.v t ≡ form_lines o h.v h.e h.m t
-    go Plain q = absurd (q refl)
-    go Ring q = refl
-    go Gears q = refl
+    go Plain r = absurd (r refl)
+    go Ring r = refl
+    go Gears r = refl
 
 -- ---- the loop
 

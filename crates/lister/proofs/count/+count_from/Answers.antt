@@ -31,7 +31,7 @@ abbrev decreases-loop : count-from-lts.decreases-loop
 decreases-loop start to p cap u left end k₀ sum₀ k sum = end - k
 
 pub follow-s-requires : goal.follow-s-requires
-follow-s-requires c = (c.requires.1.0, (c.requires.1.1.0, c.requires.1.1.1))
+follow-s-requires c = (c.requires.v_lt_most_vertices.0, (c.requires.v_lt_most_vertices.1.0, c.requires.v_lt_most_vertices.1.1))
 
 pub overflow_add-u : goal.overflow_add-u
 overflow_add-u c = omega (arith, c.follow-s.ensures.vertex)
@@ -44,7 +44,7 @@ bounds-start-u-2 c = omega (arith, c.follow-s.ensures.vertex)
 
 pub loop-k-init : goal.loop-k-init
 loop-k-init c =
-    let asked = c.requires.1 in
+    let asked = c.requires.v_lt_most_vertices in
     let led = c.follow-s in
     counting_none asked.0 led.result.v.0 led.result.r.0 c.args.cap c.index-end.result c.index-k.result
     led.ensures.vertex led.ensures.some asked.1.2 c.index-end.ensures c.index-k.ensures
@@ -69,7 +69,7 @@ overflow_sub-cap c = omega (arith, c.loop-k.invariant.below)
 
 pub count_from-sum-requires : goal.count_from-sum-requires
 count_from-sum-requires c =
-    let asked = c.requires.1 in
+    let asked = c.requires.v_lt_most_vertices in
     let w = edge_on asked.0 c.loop-k.invariant.turn c.loop-k-test.true in
     let below = c.loop-k.invariant.below in
     let led = c.follow-s.ensures.fewer in
@@ -82,7 +82,7 @@ pub returns-then-sum-cap : goal.returns-then-sum-cap
 returns-then-sum-cap c =
     let over = c.if-left-q.false in
     counting_full c.loop-k.invariant c.count_from-sum.result c.loop-k-test.true (omega arith) c.count_from-sum.ensures
-    c.requires.1.0 c.follow-s.ensures c.if-sum-cap.true
+    c.requires.v_lt_most_vertices.0 c.follow-s.ensures c.if-sum-cap.true
 
 pub overflow_add-k-in-loop-k : goal.overflow_add-k-in-loop-k
 overflow_add-k-in-loop-k c = omega (arith, c.loop-k.invariant.turn.few)
@@ -94,7 +94,7 @@ loop-k-preserved c =
     c.if-sum-cap.false
 
 pub returns-then-sum-eq0 : goal.returns-then-sum-eq0
-returns-then-sum-eq0 c = counted_none c.loop-k.invariant c.requires.1.0 c.loop-k-test.false c.follow-s.ensures c.if-sum-eq0.true
+returns-then-sum-eq0 c = counted_none c.loop-k.invariant c.requires.v_lt_most_vertices.0 c.loop-k-test.false c.follow-s.ensures c.if-sum-eq0.true
 
 pub returns : goal.returns
-returns c = counted_some c.loop-k.invariant c.requires.1.0 c.loop-k-test.false c.follow-s.ensures c.if-sum-eq0.false
+returns c = counted_some c.loop-k.invariant c.requires.v_lt_most_vertices.0 c.loop-k-test.false c.follow-s.ensures c.if-sum-eq0.false

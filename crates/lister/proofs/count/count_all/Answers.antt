@@ -9,7 +9,7 @@ pub loop-v-init : goal.loop-v-init
 loop-v-init c = (omega arith, omega arith, omega arith)
 
 pub count_from-sum-requires : goal.count_from-sum-requires
-count_from-sum-requires c = (c.requires.0, (omega arith, omega arith, omega arith, omega arith))
+count_from-sum-requires c = (c.requires.sound_columns, (omega arith, omega arith, omega arith, omega arith))
 
 pub returns-then-sum-cap : goal.returns-then-sum-cap
 returns-then-sum-cap c =

@@ -8,11 +8,11 @@ use Rattle.lister.proofs.follow.follow.Goals.{After-index}
 turn : (c : After-index)
     → Turn c.args.start.now c.loop-u.u.0 c.index.result c.index-k.result
 turn c =
-    turn_first c.requires.0 c.loop-u.u.0 c.index.result c.index-k.result c.loop-u.invariant.vertex
+    turn_first c.requires.sound_columns c.loop-u.u.0 c.index.result c.index-k.result c.loop-u.invariant.vertex
     c.index.ensures c.index-k.ensures
 
 pub loop-u-init : goal.loop-u-init
-loop-u-init c = followed_none c.args.start.now c.args.to.now c.args.p.now c.args.v.0 c.args.r.0 c.requires.1.0 c.requires.1.1
+loop-u-init c = followed_none c.args.start.now c.args.to.now c.args.p.now c.args.v.0 c.args.r.0 c.requires.v_lt_most_vertices.0 c.requires.v_lt_most_vertices.1
 
 pub bounds-start-at : goal.bounds-start-at
 bounds-start-at c = omega (arith, c.loop-u.invariant.vertex)
@@ -33,16 +33,16 @@ pub offset_bounds-p-k : goal.offset_bounds-p-k
 offset_bounds-p-k c = omega (arith, (turn (goal.at.offset_bounds-p-k c).After-index).few)
 
 pub bounds-p-k : goal.bounds-p-k
-bounds-p-k c = omega (arith, (turn (goal.at.bounds-p-k c).Else-index-k).few)
+bounds-p-k c = omega (arith, (turn (goal.at.bounds-p-k c).After-index).few)
 
 pub returns-then-left-q : goal.returns-then-left-q
 returns-then-left-q c = c.loop-u.invariant
 
 pub bounds-to-k : goal.bounds-to-k
-bounds-to-k c = omega (arith, (turn (goal.at.bounds-to-k c).After-way_told-in-loop-u-1).few)
+bounds-to-k c = omega (arith, (turn (goal.at.bounds-to-k c).After-index).few)
 
 pub loop-u-smaller : goal.loop-u-smaller
-loop-u-smaller c = let w = edge_on c.requires.0 (turn ((goal.at.loop-u-smaller c).After-way_told-in-loop-u-1)) (omega arith) in omega arith
+loop-u-smaller c = let w = edge_on c.requires.sound_columns (turn (goal.at.loop-u-smaller c).After-index) (omega arith) in omega arith
 
 pub loop-u-preserved : goal.loop-u-preserved
-loop-u-preserved c = followed_on c.requires.0 c.loop-u.invariant (turn (goal.at.loop-u-preserved c).After-way_told-in-loop-u-1) c.index-k.ensures c.if-index-k.false (omega arith)
+loop-u-preserved c = followed_on c.requires.sound_columns c.loop-u.invariant (turn (goal.at.loop-u-preserved c).After-index) c.index-k.ensures c.if-index-k.false (omega arith)

@@ -31,7 +31,7 @@ decreases-loop start to p cells₀ v r depth i at end k₀ left₀ cells k left 
 
 pub loop-k-init : goal.loop-k-init
 loop-k-init c =
-    let asked = c.requires.1 in
+    let asked = c.requires.v_lt_most_vertices in
     seeking_none asked.0 c.args.v.0 c.args.r.0 c.args.i.0 c.index-end.result c.index-k.result c.args.cells.now
     asked.1.0 asked.1.1 c.index-end.ensures c.index-k.ensures
 
@@ -52,7 +52,7 @@ bounds-to-k c = omega (arith, c.loop-k.invariant.turn.few)
 
 pub path_from-s-requires : goal.path_from-s-requires
 path_from-s-requires c =
-    let asked = c.requires.1 in
+    let asked = c.requires.v_lt_most_vertices in
     let w = edge_on asked.0 c.loop-k.invariant.turn c.loop-k-test.true in
     let f = c.loop-k.invariant.fewer in
     (omega arith, (asked.0, (omega arith, omega arith, omega arith, omega arith)))
@@ -61,7 +61,7 @@ pub returns-in-Here : goal.returns-in-Here
 returns-in-Here c =
     seeking_found c.loop-k.invariant c.loop-k-test.true (omega arith) c.args.depth c.path_from-s.new.cells
     c.path_from-s.result c.in-Here.len
-    c.path_from-s.ensures c.in-Here.is c.requires.1.0
+    c.path_from-s.ensures c.in-Here.is c.requires.v_lt_most_vertices.0
 
 pub overflow_add-k-in-loop-k : goal.overflow_add-k-in-loop-k
 overflow_add-k-in-loop-k c = omega (arith, c.loop-k.invariant.turn.few)
@@ -73,10 +73,10 @@ loop-k-preserved c =
     c.path_from-s.ensures c.in-Behind.is
 
 pub returns-then-left-i : goal.returns-then-left-i
-returns-then-left-i c = past_some c.loop-k.invariant c.requires.1.0 c.loop-k-test.false c.args.depth c.if-left-i.true
+returns-then-left-i c = past_some c.loop-k.invariant c.requires.v_lt_most_vertices.0 c.loop-k-test.false c.args.depth c.if-left-i.true
 
 pub returns-then-i-eq0 : goal.returns-then-i-eq0
-returns-then-i-eq0 c = here c.loop-k.invariant c.requires.1.0 c.loop-k-test.false c.args.depth c.if-left-i.false c.if-i-eq0.true
+returns-then-i-eq0 c = here c.loop-k.invariant c.requires.v_lt_most_vertices.0 c.loop-k-test.false c.args.depth c.if-left-i.false c.if-i-eq0.true
 
 pub returns : goal.returns
-returns c = past_one c.loop-k.invariant c.requires.1.0 c.loop-k-test.false c.args.depth c.if-left-i.false (omega arith)
+returns c = past_one c.loop-k.invariant c.requires.v_lt_most_vertices.0 c.loop-k-test.false c.args.depth c.if-left-i.false (omega arith)

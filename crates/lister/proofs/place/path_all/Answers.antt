@@ -9,7 +9,7 @@ loop-v-init c = passing_none c.args.start.now c.args.to.now c.args.p.now c.args.
 pub path_from-s-requires : goal.path_from-s-requires
 path_from-s-requires c =
     let f = c.loop-v.invariant.fewer in
-    (c.requires.0, (omega arith, omega arith, omega arith, omega arith))
+    (c.requires.sound_columns, (omega arith, omega arith, omega arith, omega arith))
 
 pub returns-in-Here : goal.returns-in-Here
 returns-in-Here c =
