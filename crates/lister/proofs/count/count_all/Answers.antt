@@ -9,7 +9,7 @@ pub loop-v-init : goal.loop-v-init
 loop-v-init c = (omega arith, omega arith, omega arith)
 
 pub count_from-sum-requires : goal.count_from-sum-requires
-count_from-sum-requires c = (c.requires.sound_columns, (omega arith, omega arith, omega arith, omega arith))
+count_from-sum-requires c = record { sound_columns = c.requires.sound_columns; v_lt_most_vertices = (omega arith, omega arith, omega arith, omega arith) }
 
 pub returns-then-sum-cap : goal.returns-then-sum-cap
 returns-then-sum-cap c =

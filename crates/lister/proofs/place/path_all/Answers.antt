@@ -9,12 +9,11 @@ loop-v-init c = passing_none c.args.start.now c.args.to.now c.args.p.now c.args.
 pub path_from-s-requires : goal.path_from-s-requires
 path_from-s-requires c =
     let f = c.loop-v.invariant.fewer in
-    (c.requires.sound_columns, (omega arith, omega arith, omega arith, omega arith))
+    record { sound_columns = c.requires.sound_columns; v_lt_most_vertices = (omega arith, omega arith, omega arith, omega arith) }
 
 pub returns-in-Here : goal.returns-in-Here
 returns-in-Here c =
-    let asked = c.requires in
-    passing_found c.loop-v.invariant asked.0 asked.1.0 asked.1.1 asked.1.2 c.loop-v-test.true
+    passing_found c.loop-v.invariant c.requires.sound_columns c.requires.n_le_most_vertices.0 c.requires.n_le_most_vertices.1 c.requires.n_le_most_vertices.2 c.loop-v-test.true
     c.path_from-s.new.cells
     c.path_from-s.result c.in-Here.len c.path_from-s.ensures c.in-Here.is
 
