@@ -17,8 +17,6 @@ use Rattle.kinds.specs.declared.Refusal.{Refusal}
 use Rattle.kinds.specs.declared.Refusal.TheVariants.{WrongFrame, BytesAfterEnd}
 use Rattle.table.specs.declared.Table.{Table}
 use Rattle.table.specs.Inner.{no_table}
-use denote.Enum.Declared.{tag_of}
-use Rattle.frames.specs.contracts.TaskOrEndLine.{the_type}
 use Rattle.frames.specs.declared.Head.{Head}
 use Rattle.frames.specs.declared.TaskOrEndLine.{TaskOrEndLine}
 use Rattle.frames.specs.declared.TaskOrEndLine.TheVariants.{TaskTaken, EndTaken, FrameRefused}
@@ -65,15 +63,10 @@ pub last_good : (line left : ℕ) → left ≡ end_bytes → Readable ≡ last_s
 last_good line left e = rw (eq-eqb left end_bytes e)
 
 -- by their numbers in the enum: no refusal of the line, no task's frame
-pub not_refused : (x : TaskOrEndLine) → (tag_of the_type x ≡ 0) ⊎ (tag_of the_type x ≡ 1) → (line left : ℕ) → last_status line left ≡ ended_status x line left
+pub not_refused : (x : TaskOrEndLine) → ((w : Refusal) → x ≡ FrameRefused w → ⊥) → (line left : ℕ) → last_status line left ≡ ended_status x line left
 not_refused (TaskTaken k) h line left = refl
 not_refused EndTaken h line left = refl
-not_refused (FrameRefused w) (inl q) line left = absurd (omega (arith, q))
-not_refused (FrameRefused w) (inr q) line left = absurd (omega (arith, q))
-
-pub no_task_taken : {x : TaskOrEndLine} → (tag_of the_type x ≡ 1) ⊎ (tag_of the_type x ≡ 2) → (h : Head) → x ≡ TaskTaken h → ⊥
-no_task_taken (inl h) k q = omega (arith, h, ap (tag_of the_type) q)
-no_task_taken (inr h) k q = omega (arith, h, ap (tag_of the_type) q)
+not_refused (FrameRefused w) h line left = absurd (h w refl)
 
 -- the line at `at` gives x
 pub record FrameTurn (s : List ℕ) (t : Table) (at line : ℕ) (x : TaskOrEndLine) : Type 0 where
