@@ -1,0 +1,4 @@
+use Rattle.ranges.proofs.+build.Given as goal
+
+abbrev pub decreases-build : goal.decreases-build
+decreases-build l = l.len
