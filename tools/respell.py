@@ -78,7 +78,9 @@ def declared():
 def snake(part):
     if len(part) == 1 or part.isupper() or part[0].isupper():
         return part
-    return re.sub(r"(?<=[a-z0-9'])([A-Z])", lambda m: "_" + m.group(1).lower(), part)
+    # getD is the library's get_or today.
+    part = re.sub(r"\bgetD\b", "get_or", part)
+    return re.sub(r"(?<=[a-z0-9'])[A-Z]|(?<=[A-Z])[A-Z](?=[a-z])", lambda m: "_" + m.group().lower(), part)
 
 
 def spelled(name, names):

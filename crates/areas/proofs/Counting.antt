@@ -10,7 +10,7 @@ use lib.Seq.{take-suc}
 use Rattle.meaning.specs.Bounds.{most_higher, most_paths, largest_d}
 use Rattle.meaning.specs.Areas.{rows_for}
 use Rattle.table.specs.Record.{padded}
-use Rattle.table.proofs.Record.{get_d_padded, length-padded, padded_more}
+use Rattle.table.proofs.Record.{get_or-padded, length-padded, padded_more}
 use Rattle.areas.specs.Above.{rows_in, starts_from, above_of, none_above, with_paths, Counted}
 
 -- ---- rows, and where stretches begin
@@ -95,13 +95,13 @@ module _ (d : ℕ) (ns : List ℕ) (seven : length ns ≤ most_higher) where
 
   pub above_count : (j : ℕ) → j < length ns → get_or (above_of d ns).counts j 0 ≡ get_or ns j 0
   unfolding above_of
-  above_count j h = get_d_padded most_higher 0 0 ns j h
+  above_count j h = get_or-padded most_higher 0 0 ns j h
 
   pub above_root : (j : ℕ) → j < length ns → get_or (above_of d ns).roots j 0 ≡ rows_in (take j ns) * d
   unfolding above_of
   above_root j h =
       let e : 0 + rows_in (take j ns) ≡ rows_in (take j ns) = omega arith in
-      get_d_padded most_higher 0 0 (starts_from d 0 ns) j (omega (arith, length_starts d 0 ns)) ∙ start_at d 0 ns j h ∙ ap (λ (k : ℕ). k * d) e
+      get_or-padded most_higher 0 0 (starts_from d 0 ns) j (omega (arith, length_starts d 0 ns)) ∙ start_at d 0 ns j h ∙ ap (λ (k : ℕ). k * d) e
 
   pub counted : ((j : ℕ) → j < length ns → get_or ns j 0 ≤ most_paths) → Counted (length ns) (above_of d ns)
   counted few = record { counts = above_counts; roots = above_roots; rows = omega (arith, above_rows, rows_few ns few) }

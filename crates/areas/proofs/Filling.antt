@@ -13,7 +13,7 @@ use Rattle.meaning.specs.Table.{no_task}
 use Rattle.meaning.specs.Paths.{paths_of}
 use Rattle.meaning.specs.Areas.{rows_for, rows_of}
 use Rattle.meaning.specs.Sound.{SoundTask, AllSound}
-use Rattle.meaning.proofs.Lists.{get_d_mapped, mem_get_d, mem_take, take-map}
+use Rattle.meaning.proofs.Lists.{get_or_mapped, mem_get_or, mem_take, take-map}
 use Rattle.meaning.proofs.PathsOf.{paths_some}
 use Rattle.table.specs.declared.Task.{Task}
 use Rattle.table.specs.Inner.{task_of, HeldTask}
@@ -107,7 +107,7 @@ module _ (ks : List Meant.Task) (d : ℕ) (f : Few ks d) where
     task = get_or ks j no_task
 
     pub task_sound : SoundTask task
-    task_sound = f.sound task (mem_get_d no_task ks j m)
+    task_sound = f.sound task (mem_get_or no_task ks j m)
 
     -- a task's stretch: how many paths, where it begins, where it ends
     pub record At : Type 0 where
@@ -121,7 +121,7 @@ module _ (ks : List Meant.Task) (d : ℕ) (f : Few ks d) where
     at =
         let l : j < length ns = omega (arith, counts_length) in
         let count = above_count d ns seven j l in
-        let paths : get_or ns j 0 ≡ length (paths_of task d) = get_d_mapped (λ (x : Meant.Task). length (paths_of x d)) 0 no_task ks j m in
+        let paths : get_or ns j 0 ≡ length (paths_of task d) = get_or_mapped (λ (x : Meant.Task). length (paths_of x d)) 0 no_task ks j m in
         let root = above_root d ns seven j l in
         let to : get_or (above_of d ns).roots j 0 + stretch_cells d (get_or (above_of d ns).counts j 0) ≡ rows_in (take (j + 1) ns) * d = (
         ap₂ (λ (u v : ℕ). u + rows_for v * d) root count ∙ sym (add-mul (rows_in (take j ns)) (rows_for (get_or ns j 0)) d)

@@ -11,7 +11,7 @@ use Rattle.meaning.specs.Table.{no_task}
 use Rattle.meaning.specs.Paths.{Path, paths_of}
 use Rattle.meaning.specs.Sound.{SoundTask}
 use Rattle.meaning.specs.Areas.{Wrote}
-use Rattle.meaning.proofs.Lists.{mem_get_d}
+use Rattle.meaning.proofs.Lists.{mem_get_or}
 use Rattle.meaning.proofs.PathsOf.{paths_short}
 use Rattle.meaning.proofs.Wrote.{wrote_then}
 use Rattle.table.specs.declared.Task.{Task}
@@ -28,7 +28,7 @@ use Rattle.areas.proofs.Placing.{Placing, placing_none, placing_all}
 place_short : (k : Meant.Task) → SoundTask k → (d : ℕ) → 1 ≤ d → (p : ℕ) → length (path_at k d p) ≤ d
 place_short k s d o p =
     elim (dec_lt p (length (paths_of k d))) [
-      | yes h ↦ paths_short k s d o (path_at k d p) (mem_get_d [] (paths_of k d) p h)
+      | yes h ↦ paths_short k s d o (path_at k d p) (mem_get_or [] (paths_of k d) p h)
       | no h ↦ rw (get_or-eq_default (paths_of k d) [] {n = p} (omega arith)) zero-le
     ]
 

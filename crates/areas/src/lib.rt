@@ -1,4 +1,6 @@
 // "Lent areas": the stretches that the higher tasks are lent of the work area, the cells that become zero, and the cells of a miss.
+#![tactic(auto)]
+
 pub mod above;
 pub mod stretches;
 pub mod witness;

@@ -1,5 +1,6 @@
 // The bounds that document 01 and wishes 3 and 7 set, once for the code, and what follows from them; `meaning`'s Bounds has them once for the definitions.
 // The proofs tie the two: an array or a test by another number meets no contract.
+#![tactic(auto)]
 
 // ---- a table
 

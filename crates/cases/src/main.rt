@@ -10,6 +10,8 @@
 //   r  a record, written into a marked area (record.rt)
 //   b  back: the text's table, written into a marked area (back.rt)
 // Any other mode is a line that says so.
+#![tactic(auto)]
+
 mod areas;
 mod back;
 mod check;

@@ -1,6 +1,8 @@
 // For a host that has no record of a table: a task's counts and m, then its vertices, then its edges, task after task, in one list of 16-bit cells.
 //
 // The record of such a list, and its text. A list that ends inside a task has 0 for the cells that it lacks, and 0 breaks a rule.
+#![tactic(auto)]
+
 ghost use Rattle.std.specs.Prelude.{◌≡◌, ◌≤◌, min, length};
 ghost use Rattle.cells.specs.Cells.{cell_at};
 ghost use Rattle.cells.specs.Inner.{Near, VerticesRead, EdgesRead, TaskRead, WrittenAlike, CellsWritten};

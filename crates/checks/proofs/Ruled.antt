@@ -10,7 +10,7 @@ use lib.Dec.{leb, ltb, eqb}
 use borrow.Author.Tests.{leb-true, leb-false, eqb-true, eqb-false, le-leb, lt-ltb, le-ltb, ne_eqb}
 use Rattle.meaning.specs.Lists.{pick, gather}
 use Rattle.meaning.specs.Bounds.{most_tasks, most_vertices, largest_e, largest_d, largest_p}
-use Rattle.meaning.specs.Table.{Vertex, Edge, Task, Table, task, no_vertex, no_task, largest_eIn}
+use Rattle.meaning.specs.Table.{Vertex, Edge, Task, Table, task, no_vertex, no_task, largest_e_in}
 use Rattle.meaning.specs.Text.{Begun, begun, closed, Step, on, over, wrong, gate, within, after_last, step_at}
 use Rattle.meaning.specs.Text.{Reading, readable, unreadable, frames_from}
 use Rattle.meaning.specs.Writing.{frame_of_task, frame_of_vertex, frame_of_edge, frame_of_end, frames_of_task, ruled}
@@ -50,14 +50,14 @@ module _ (ts : List Task) (m e : ℕ) where
   vertex_turn : (vs : List Vertex) (v n : ℕ) (x : Vertex) (fs : List (List ℕ))
       → in_turn (after_vertices vs (suc v)) n (frame_of_vertex x ∷ fs)
       ≡ unless (vertex_check n x) (frames_step some
-      (gate (ltb 1 (suc v) || leb m (largest_eIn (vs ++ (x ∷ [])))) 3 (on (after_vertices (vs ++ (x ∷ [])) v))) n fs)
+      (gate (ltb 1 (suc v) || leb m (largest_e_in (vs ++ (x ∷ [])))) 3 (on (after_vertices (vs ++ (x ∷ [])) v))) n fs)
   unfolding vertex_check vertex_in
   vertex_turn vs v n x fs =
       let o : suc v - 1 ≡ v = omega arith in
       step_frames some (after_vertices vs (suc v)) n (frame_of_vertex x) fs
       ∙ rw (two-word x.e, two-word x.d, o)
       (go (within 1 largest_e x.e && within 1 largest_d x.d) (job_in_time x.e x.d)
-      (gate (ltb 1 (suc v) || leb m (largest_eIn (vs ++ (x ∷ [])))) 3 (on (after_vertices (vs ++ (x ∷ [])) v))))
+      (gate (ltb 1 (suc v) || leb m (largest_e_in (vs ++ (x ∷ [])))) 3 (on (after_vertices (vs ++ (x ∷ [])) v))))
     where
       go : (b c : Bool) (s : Step) → frames_step some (gate b 3 (gate c 13 s)) n fs
           ≡ unless (pick b (pick c Kept (broken_by JobOverDeadline n)) (broken_by OutOfBounds n)) (frames_step some s n fs)
@@ -66,9 +66,9 @@ module _ (ts : List Task) (m e : ℕ) where
       go false c s = refl
 
   last_turn : (vs : List Vertex) (n : ℕ) (fs : List (List ℕ))
-      → frames_step some (gate (leb m (largest_eIn vs)) 3 (on (after_vertices vs 0))) n fs ≡ unless (mask_check n m vs) (in_turn (after_vertices vs 0) (suc n) fs)
+      → frames_step some (gate (leb m (largest_e_in vs)) 3 (on (after_vertices vs 0))) n fs ≡ unless (mask_check n m vs) (in_turn (after_vertices vs 0) (suc n) fs)
   unfolding mask_check
-  last_turn vs n fs = go (leb m (largest_eIn vs))
+  last_turn vs n fs = go (leb m (largest_e_in vs))
     where
       go : (b : Bool)
           → frames_step some (gate b 3 (on (after_vertices vs 0))) n fs ≡ unless (pick b Kept (broken_by OutOfBounds n)) (in_turn (after_vertices vs 0) (suc n) fs)

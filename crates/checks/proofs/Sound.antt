@@ -12,7 +12,7 @@ use lib.Dec.{leb, eqb}
 use borrow.Author.Tests.{le-leb, lt-leb, lt-ltb, ne_eqb}
 use Rattle.meaning.specs.Lists.{pick, gather, Rising}
 use Rattle.meaning.specs.Bounds.{most_tasks, most_vertices, most_edges, largest_e, largest_d, largest_p, largest_m}
-use Rattle.meaning.specs.Table.{Vertex, Edge, Task, Table, no_vertex, no_task, vertex_at, task_at, largest_eIn}
+use Rattle.meaning.specs.Table.{Vertex, Edge, Task, Table, no_vertex, no_task, vertex_at, task_at, largest_e_in}
 use Rattle.meaning.specs.Text.{nothing, readable, unreadable}
 use Rattle.meaning.specs.Texts.{last_line}
 use Rattle.meaning.specs.Slips.{LineRow, TooLong}
@@ -89,7 +89,7 @@ task-kept n k s =
     rw (
       own_kept n k s.some_vertex s.vertex_count s.edge_count s.most_m,
       vertices-kept (n + 1) k.vertices s.each_vertex,
-      le-leb k.m (largest_eIn k.vertices) s.covered,
+      le-leb k.m (largest_e_in k.vertices) s.covered,
     )
     (edges_kept k.vertices s.vertex_count 0 (n + length k.vertices + 1) k.edges s.each_edge s.rising (λ x m. omega arith))
 
@@ -187,7 +187,7 @@ module _ (ts : Table) (i : ℕ) (h : i < length ts) (l : i < most_tasks) (s : Al
   counts_ruled o = task-ruled ts i (line_of ts i) OutOfBounds h l s (rw (not_in (length own.vertices) (length own.edges) own.m o))
 
   pub mask_ruled : 1 ≤ length own.vertices → length own.vertices ≤ most_vertices → length own.edges ≤ most_edges → own.m ≤ largest_m
-      → ((x : Vertex) → Memᴰ x own.vertices → SoundVertex x) → largest_eIn own.vertices < own.m
+      → ((x : Vertex) → Memᴰ x own.vertices → SoundVertex x) → largest_e_in own.vertices < own.m
       → ruled ts ≡ unreadable 3 (line_of ts i + length own.vertices)
   unfolding task_check mask_check
   mask_ruled a b c d each m =
@@ -195,7 +195,7 @@ module _ (ts : Table) (i : ℕ) (h : i < length ts) (l : i < most_tasks) (s : Al
       (rw (
         own_kept (line_of ts i) own a b c d,
         vertices-kept (line_of ts i + 1) own.vertices each,
-        lt-leb own.m (largest_eIn own.vertices) m,
+        lt-leb own.m (largest_e_in own.vertices) m,
       ))
 
   pub slip_ruled : (j : ℕ) → let x = vertex_at own j in j < length own.vertices → length own.vertices ≤ most_vertices
@@ -278,7 +278,7 @@ task_rows n k =
     (pick_rows (task_in (length k.vertices) (length k.edges) 0 k.m) Kept (broken_by OutOfBounds n) tt (inl (omega arith, omega arith)))
     (then_rows (vertices_check (n + 1) k.vertices) _ (vertices_rows (n + 1) k.vertices)
     (then_rows (mask_check (n + length k.vertices) k.m k.vertices) _
-    (pick_rows (leb k.m (largest_eIn k.vertices)) Kept (broken_by OutOfBounds (n + length k.vertices)) tt (inl (omega arith, omega arith)))
+    (pick_rows (leb k.m (largest_e_in k.vertices)) Kept (broken_by OutOfBounds (n + length k.vertices)) tt (inl (omega arith, omega arith)))
     (edges_rows k.vertices 0 (n + length k.vertices + 1) k.edges)))
 
 table_rows : (i n : ℕ) (ks : Table) → InRows (table_check i n ks)

@@ -35,7 +35,7 @@ vertices_check n (x ∷ xs) = and_then (vertex_check n x) (vertices_check (suc n
 
 -- the masked length m, at the last one's line
 unfoldable pub mask_check : ℕ → ℕ → List Meant.Vertex → Check
-mask_check n m vs = pick (mask_covered m (Meant.largest_eIn vs)) Kept (broken_by OutOfBounds n)
+mask_check n m vs = pick (mask_covered m (Meant.largest_e_in vs)) Kept (broken_by OutOfBounds n)
 
 -- ---- edges of a task with the vertices vs, from line n on, where `least` is the first place after the edge before
 

@@ -2,6 +2,8 @@
 // line)." A job longer than its own deadline gets 13, by wish 6.
 //
 // The first line of a table that breaks a rule, by the questions that the reader asks of a text; and how many bytes its text has where no line does.
+#![tactic(auto)]
+
 ghost use Rattle.std.specs.Prelude.{◌≡◌, ◌+◌, ◌≤◌, ◌<◌};
 ghost use Rattle.meaning.specs.Bounds.{most_vertices, most_edges};
 ghost use Rattle.meaning.specs.Texts.{last_line};

@@ -10,18 +10,18 @@ use Rattle.meaning.specs.Lists.{Rising}
 use Rattle.meaning.specs.Bounds.{most_vertices, most_edges}
 use Rattle.meaning.specs.Table as Meant
 use Rattle.meaning.specs.Sound.{SoundTask, EdgeBefore}
-use Rattle.meaning.proofs.Lists.{mem_get_d}
+use Rattle.meaning.proofs.Lists.{mem_get_or}
 use Rattle.table.specs.declared.Task.{Task}
 use Rattle.table.specs.Record.{no_vertex, no_edge, vertex_record, edge_record, task_record}
 use Rattle.table.specs.Inner.{task_of, HeldTask}
-use Rattle.table.proofs.Record.{get_d_padded, length-padded}
+use Rattle.table.proofs.Record.{get_or-padded, length-padded}
 use Rattle.columns.specs.Columns.{edge_cell, Ready}
 use Rattle.columns.proofs.TaskColumns.{no_meant_edge}
 
 rising_at : {X : Type 0} (R : X → X → Type 0) (z : X) (xs : List X) → Rising R xs → (i j : ℕ) → i < j → j < length xs → R (get_or xs i z) (get_or xs j z)
 rising_at R z [] r i j h l = absurd (omega arith)
 rising_at R z (x ∷ xs) r i zero h l = absurd (omega arith)
-rising_at R z (x ∷ xs) r zero (suc j) h l = r.0 (get_or xs j z) (mem_get_d z xs j (omega arith))
+rising_at R z (x ∷ xs) r zero (suc j) h l = r.0 (get_or xs j z) (mem_get_or z xs j (omega arith))
 rising_at R z (x ∷ xs) r (suc i) (suc j) h l = rising_at R z xs r.1 i j (omega arith) (omega arith)
 
 -- the order of (from, to), in numbers
@@ -40,7 +40,7 @@ module _ (k : Meant.Task) (s : SoundTask k) where
   edge_is : (j : ℕ) → j < length k.edges → edge_cell (task_record k) j ≡ edge_record (meant_at j)
   unfolding meant_at
   edge_is j h =
-      get_d_padded most_edges no_edge no_edge (map edge_record k.edges) j (omega (arith, length-map k.edges edge_record))
+      get_or-padded most_edges no_edge no_edge (map edge_record k.edges) j (omega (arith, length-map k.edges edge_record))
       ∙ get_or-map edge_record k.edges j no_meant_edge
 
   before : (i j : ℕ) → i < j → j < length k.edges → EdgeBefore (meant_at i) (meant_at j)
@@ -56,7 +56,7 @@ module _ (k : Meant.Task) (s : SoundTask k) where
   ready_record : Ready (task_record k)
   unfolding meant_at
   ready_record =
-      let each : (j : ℕ) → j < length k.edges → _ = λ j h. s.each_edge (get_or k.edges j no_meant_edge) (mem_get_d no_meant_edge k.edges j h) in
+      let each : (j : ℕ) → j < length k.edges → _ = λ j h. s.each_edge (get_or k.edges j no_meant_edge) (mem_get_or no_meant_edge k.edges j h) in
       record {
         few = s.vertex_count;
         links = s.edge_count;

@@ -1,5 +1,7 @@
 // A task as columns of numbers, which cost less to lend than a record costs to hand on: the execution times, and the edges' ends and separations,
 // which stand in order of the vertex they start from, with the place of each vertex's first.
+#![tactic(auto)]
+
 pub mod numbers;
 
 ghost use Rattle.std.specs.Prelude.{◌≡◌, ◌≤◌, map, length, take, replicate};

@@ -1,5 +1,7 @@
 // The desk program: "It reads standard input into 8,192 bytes", one more than an input may have, and writes the output that `desk_output` gives for
 // what it read.
+#![tactic(auto)]
+
 use bounds::LONGEST_INPUT;
 use judge::desk_output;
 

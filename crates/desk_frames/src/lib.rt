@@ -2,6 +2,8 @@
 // last 1f and the four counts. A refused text or input gives only 1e, number, line in 2 bytes." By wish 7 a path's frame is 12, its length in 2 bytes.
 //
 // Each function writes lines into a lent area, from a place on, and gives the place behind them.
+#![tactic(auto)]
+
 mod path;
 
 ghost use Rattle.std.specs.Prelude.{◌+◌, ◌≤◌, length};

@@ -1,6 +1,8 @@
 // "an even number of digits 0-9a-f, at least two, then a line feed. Numbers have the high byte first."
 //
 // What stands at a place of a text: digits by their worth, the numbers that they spell, and the digits of a line.
+#![tactic(auto)]
+
 ghost use Rattle.std.specs.Prelude.{◌≡◌, ◌+◌, ◌<◌, length};
 ghost use Rattle.digits.specs.Digits.{worth_of, Worths, pair_at, word_at, frame_at, digit_count};
 

@@ -19,9 +19,9 @@ use Rattle.table.specs.Inner.{edge_cells, vertices_record}
 use Rattle.frames.specs.declared.EdgeLine.{EdgeLine}
 use Rattle.frames.specs.declared.EdgeLine.TheVariants.{EdgeTaken, EdgeRefused}
 use Rattle.digits.specs.Digits.{worth_of, pair_at}
-use Rattle.meaning.proofs.Lists.{get_d_mapped}
+use Rattle.meaning.proofs.Lists.{get_or_mapped}
 use Rattle.meaning.proofs.Readable.{read_step}
-use Rattle.table.proofs.Record.{get_d_padded}
+use Rattle.table.proofs.Record.{get_or-padded}
 use Rattle.rules.specs.Rules.{edge_in, edge_spaced, edge_after}
 use Rattle.frames.specs.Frames.{part_digits, part_bytes, starts_with, edge_from, edge_to, edge_p, edge_line}
 use Rattle.digits.proofs.Spelled.{Spelled}
@@ -36,8 +36,8 @@ use Rattle.frames.proofs.Expected.{same-pick, fault_law, Starts, starts_says, fr
 start_d : (X : List Meant.Vertex) (i : ℕ) → i < length X → (get_or (vertices_record X) i no_vertex).d.0 ≡ (get_or X i Meant.no_vertex).d
 start_d X i h =
     ap (λ (x : Vertex). x.d.0)
-    (get_d_padded most_vertices no_vertex no_vertex (map vertex_record X) i (omega (arith, length-map X vertex_record))
-    ∙ get_d_mapped vertex_record no_vertex Meant.no_vertex X i h)
+    (get_or-padded most_vertices no_vertex no_vertex (map vertex_record X) i (omega (arith, length-map X vertex_record))
+    ∙ get_or_mapped vertex_record no_vertex Meant.no_vertex X i h)
 
 -- what becomes of the reading with an edge's line
 abbrev pub edge_gives : EdgeLine → ℕ → (Edge → Reading) → Reading

@@ -9,7 +9,7 @@ use lib.Dec.{leb, ltb}
 use borrow.Author.Tests.{eq-eqb, lt-ltb}
 use Rattle.meaning.specs.Lists.{pick}
 use Rattle.meaning.specs.Table as Meant
-use Rattle.meaning.specs.Table.{largest_eIn}
+use Rattle.meaning.specs.Table.{largest_e_in}
 use Rattle.meaning.specs.Text.{lines_of, Begun, begun, on, wrong, gate, is_frame, word, vertex_frame, Reading, unreadable, read_from}
 use Rattle.meaning.proofs.Readable.{read_step}
 use Rattle.kinds.specs.declared.Refusal.TheVariants.{WrongFrame, OutOfBounds, JobOverDeadline}
@@ -37,11 +37,11 @@ vertex_gives (VertexRefused w) n go = unreadable (refusal_number w) n
 module _ (ts : List Meant.Task) (m : ℕ) (es : List Meant.Edge) (ne n : ℕ) where
   -- behind line n, with the vertices X read and k still wanted: behind the last one m is held to their largest e
   abbrev pub vertex_behind : ℕ → List Meant.Vertex → List ℕ → Reading
-  vertex_behind zero X t = read_step (gate (leb m (largest_eIn X)) 3 (on (begun ts (Meant.task m X es) 0 ne))) n (lines_of t)
+  vertex_behind zero X t = read_step (gate (leb m (largest_e_in X)) 3 (on (begun ts (Meant.task m X es) 0 ne))) n (lines_of t)
   vertex_behind (suc k) X t = read_from (begun ts (Meant.task m X es) (suc k) ne) (suc n) (lines_of t)
 
   mask_behind : (k : ℕ) (X : List Meant.Vertex) (t : List ℕ)
-      → read_step (gate (ltb 1 (suc k) || leb m (largest_eIn X)) 3 (on (begun ts (Meant.task m X es) k ne))) n (lines_of t) ≡ vertex_behind k X t
+      → read_step (gate (ltb 1 (suc k) || leb m (largest_e_in X)) 3 (on (begun ts (Meant.task m X es) k ne))) n (lines_of t) ≡ vertex_behind k X t
   mask_behind zero X t = refl
   mask_behind (suc k) X t = rw (lt-ltb 1 (suc (suc k)) (omega arith))
 
@@ -76,7 +76,7 @@ module _ (ts : List Meant.Task) (m : ℕ) (vs : List Meant.Vertex) (es : List Me
       vs' = vs ++ (vertex_of x ∷ [])
 
       gated : (b : Bool)
-          → read_step (gate b 13 (gate (ltb 1 (suc k) || leb m (largest_eIn vs')) 3 (on (begun ts (Meant.task m vs' es) k ne)))) n (lines_of (drop part_bytes t))
+          → read_step (gate b 13 (gate (ltb 1 (suc k) || leb m (largest_e_in vs')) 3 (on (begun ts (Meant.task m vs' es) k ne)))) n (lines_of (drop part_bytes t))
           ≡ vertex_gives (pick b (VertexTaken x) (VertexRefused JobOverDeadline)) n behind
       gated true = mask_behind ts m es ne n k vs' (drop part_bytes t)
       gated false = refl

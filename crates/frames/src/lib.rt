@@ -2,6 +2,8 @@
 //
 // One line: whether the frame that must stand there does, and by which row of the refusal sheet the line is refused where it does not. A line
 // is looked through for the reason only where the expected frame fails.
+#![tactic(auto)]
+
 ghost use Rattle.std.specs.Prelude.{◌≡◌, ◌<◌, ◌≤◌, length};
 ghost use Rattle.meaning.specs.Bounds.{most_vertices};
 ghost use Rattle.digits.specs.Digits.{Worths};

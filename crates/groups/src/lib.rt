@@ -3,6 +3,8 @@
 //
 // A group is lent as arrays: where the row of each task's range begins in the work area (`base`), its `first` path and its `len`. Of each higher task
 // there is a stretch of rows there, which begins at `root`, and the `count` of its paths; no paths are known here.
+#![tactic(auto)]
+
 ghost use Rattle.std.specs.Prelude.{◌≡◌, ◌+◌, ◌<◌, take};
 ghost use Rattle.meaning.specs.Bounds.{most_higher};
 ghost use Rattle.rows.specs.Ranges.{range, row_start};

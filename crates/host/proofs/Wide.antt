@@ -11,7 +11,7 @@ use Rattle.meaning.specs.Sound.{SoundTable}
 use Rattle.meaning.specs.Verdict.{Verdict, refused, numbers, late_numbers, Asked, latest, worst_at, latest_paths, meets_paths}
 use Rattle.meaning.specs.Areas.{work_need, work_after, witness_after}
 use Rattle.meaning.specs.Judge.{judged, on_reading}
-use Rattle.meaning.proofs.Lists.{mem_get_d}
+use Rattle.meaning.proofs.Lists.{mem_get_or}
 use Rattle.meaning.proofs.Demands.{readable_sound}
 use Rattle.kinds.specs.declared.Verdict as Code
 use Rattle.kinds.specs.declared.Lateness.{Lateness}
@@ -28,7 +28,7 @@ module _ (asked : Asked) (i v b lw lx : ℕ) {X : Type 0} (F : Verdict → ℕ �
 
   of-task : (ts : Table) → SoundTable ts → i < length ts → At (readable ts) i (min v 255) ≡ At (readable ts) i v
   of-task ts s h =
-      let few = (s.each_task (task_at ts i) (mem_get_d no_task ts i h)).vertex_count in
+      let few = (s.each_task (task_at ts i) (mem_get_or no_task ts i h)).vertex_count in
       elim (dec_lt v (length (task_at ts i).vertices)) [
         | yes l ↦ let e : min v 255 ≡ v = omega (arith, few) in ap (At (readable ts) i) e
         | no l ↦

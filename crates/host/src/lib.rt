@@ -3,6 +3,8 @@
 //
 // Names that a C program sees start with the project's. A vertex's value, place and finish come back behind pointers, C's way to return more than one
 // number: a count may take 32 bits, and the place beside it has no width of its own.
+#![tactic(auto)]
+
 ghost use Rattle.std.specs.Prelude.{◌≡◌, ◌+◌, ◌*◌, length};
 ghost use Rattle.meaning.specs.Text.{read, packed};
 ghost use Rattle.meaning.specs.Areas.{Wrote};
@@ -22,8 +24,7 @@ use reader::text_check;
 use writer::Written;
 
 // The text check, by the project's name.
-#[unsafe(no_mangle)]
-pub extern "C" fn tectavirio_text_check(text: &[u8]) -> u32
+pub fn tectavirio_text_check(text: &[u8]) -> u32
     ensures { result ≡ packed (read text.now) }
 {
     text_check(text)
@@ -31,8 +32,7 @@ pub extern "C" fn tectavirio_text_check(text: &[u8]) -> u32
 
 // One vertex of the text's table: gives the verdict's number, 0 meets, 1 misses, 2 unfinished, 3 refused. The value is the count, the budget or the
 // refusal's number; the place is the cells written by a miss, what is returned with a refusal, else zero.
-#[unsafe(no_mangle)]
-pub extern "C" fn tectavirio_judge(
+pub fn tectavirio_judge(
     text: &[u8],
     task: u32,
     vertex: u32,
@@ -59,8 +59,7 @@ pub extern "C" fn tectavirio_judge(
 
 // One vertex, and how late its latest is: as the call above, but a meets has the cells that it wrote as its place, and the finish is its worst finish; 0
 // beside any other verdict.
-#[unsafe(no_mangle)]
-pub extern "C" fn tectavirio_latest(
+pub fn tectavirio_latest(
     text: &[u8],
     task: u32,
     vertex: u32,
@@ -105,8 +104,7 @@ fn refused_number(at: RefusedAt) -> u64
 }
 
 // The four counts of the text's table, below 4,294,967,296; else the refusal's number x 4,294,967,296 + its line.
-#[unsafe(no_mangle)]
-pub extern "C" fn tectavirio_judge_table(text: &[u8], budget: u32, work: &mut [u32]) -> u64
+pub fn tectavirio_judge_table(text: &[u8], budget: u32, work: &mut [u32]) -> u64
     ensures { TableTold text.now budget work.old result work.new }
 {
     let verdict = judge_table(text, budget, work);
@@ -117,8 +115,7 @@ pub extern "C" fn tectavirio_judge_table(text: &[u8], budget: u32, work: &mut [u
 }
 
 // A table in cells, written as text: the number of bytes, below 4,294,967,296; else the refusal's number x 4,294,967,296 + what is returned with it.
-#[unsafe(no_mangle)]
-pub extern "C" fn tectavirio_write(cells: &[u16], out: &mut [u8]) -> u64
+pub fn tectavirio_write(cells: &[u16], out: &mut [u8]) -> u64
     ensures { WriteTold cells.now out.old result out.new }
 {
     let written = write_cells(cells, out);
@@ -129,8 +126,7 @@ pub extern "C" fn tectavirio_write(cells: &[u16], out: &mut [u8]) -> u64
 }
 
 // The desk's whole output, as the judge's own call gives it.
-#[unsafe(no_mangle)]
-pub extern "C" fn tectavirio_desk_output(text: &[u8], out: &mut [u8]) -> usize
+pub fn tectavirio_desk_output(text: &[u8], out: &mut [u8]) -> usize
     ensures { Wrote (output_into text.now (length out.old)) out.old 0 out.new result }
 {
     desk_output(text, out)

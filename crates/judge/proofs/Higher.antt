@@ -12,7 +12,7 @@ use Rattle.meaning.specs.Table as Meant
 use Rattle.meaning.specs.Table.{no_task, higher}
 use Rattle.meaning.specs.Paths.{paths_of}
 use Rattle.meaning.specs.Areas.{written}
-use Rattle.meaning.proofs.Lists.{get_d_mapped, mem_take}
+use Rattle.meaning.proofs.Lists.{get_or_mapped, mem_take}
 use Rattle.meaning.proofs.PathsOf.{paths_some}
 use Rattle.meaning.proofs.Wrote.{Gathering, gathering_none, gathering_more, gathering_all, front-set}
 use Rattle.table.specs.declared.Task.{Task}
@@ -62,7 +62,7 @@ module _ (t : Table) (k : Held t) (i : ℕ) (l : i < t.n) (d : ℕ) where
   count_of : (z : Task) (j : ℕ) → j < i → length (paths_of (task_of (get_or t.tasks j z)) d) ≡ get_or ns j 0
   count_of z j m =
       ap (λ (x : Meant.Task). length (paths_of x d)) (task_is z j m)
-      ∙ sym (get_d_mapped (λ (x : Meant.Task). length (paths_of x d)) 0 no_task ks j (omega (arith, many)))
+      ∙ sym (get_or_mapped (λ (x : Meant.Task). length (paths_of x d)) 0 no_task ks j (omega (arith, many)))
 
   -- ---- counted, up to task j
 

@@ -9,7 +9,7 @@ use lib.ListN.{drop, drop_of_length-le}
 use lib.Seq.{drop-cons}
 use Rattle.meaning.specs.Bounds.{most_tasks, largest_e, largest_m}
 use Rattle.meaning.specs.Table as Meant
-use Rattle.meaning.specs.Table.{no_task, task_at, lower, largest_mIn}
+use Rattle.meaning.specs.Table.{no_task, task_at, lower, largest_m_in}
 use Rattle.meaning.specs.Verdict.{B, own_e}
 use Rattle.meaning.specs.Sound.{AllSound}
 use Rattle.meaning.proofs.Lists.{mem_drop}
@@ -19,14 +19,14 @@ use Rattle.table.proofs.Records.{held_count, held_few, held_is}
 use Rattle.table.proofs.Vertices.{own_task, own_vertex, job_sound, job_e}
 use Rattle.overload.specs.Rows.{light}
 
-masks_small : (ks : List Meant.Task) → AllSound ks → largest_mIn ks ≤ largest_m
+masks_small : (ks : List Meant.Task) → AllSound ks → largest_m_in ks ≤ largest_m
 masks_small [] s = omega arith
 masks_small (k ∷ ks) s = omega (arith, (s k (Memᴰ.head refl)).most_m, masks_small ks (λ j m. s j (Memᴰ.tail m)))
 
 -- `masked` is the longest so far, and the tasks from number `low` on are still to come
 pub record MaskedTo (t : Table) (i masked low : ℕ) : Type 0 where
   pub few : t.n ≤ most_tasks
-  pub longest : max masked (largest_mIn (drop low (table_of t))) ≡ B (table_of t) i
+  pub longest : max masked (largest_m_in (drop low (table_of t))) ≡ B (table_of t) i
 
 module _ (t : Table) (k : Held t) (i : ℕ) where
   abbrev ts : Meant.Table
@@ -34,7 +34,7 @@ module _ (t : Table) (k : Held t) (i : ℕ) where
 
   -- the longest of the tasks from number j on
   abbrev from : ℕ → ℕ
-  from j = largest_mIn (drop j ts)
+  from j = largest_m_in (drop j ts)
 
   B-small : B ts i ≤ largest_m
   B-small = masks_small (lower ts i) (λ j m. k.sound.each_task j (mem_drop (suc i) ts m))
@@ -46,11 +46,11 @@ module _ (t : Table) (k : Held t) (i : ℕ) where
     pub masked_more : low < t.n → {next after : ℕ} → next ≡ max masked (own_task t low).m.0 → after ≡ low + 1 → MaskedTo t i next after
     masked_more l p q =
         let own : (own_task t low).m.0 ≡ (task_at ts low).m = ap (λ (x : Meant.Task). x.m) (held_is t k _ low l) in
-        let more : from low ≡ max (task_at ts low).m (from (suc low)) = ap largest_mIn (drop-cons ts low no_task (omega (arith, held_count t k))) in
+        let more : from low ≡ max (task_at ts low).m (from (suc low)) = ap largest_m_in (drop-cons ts low no_task (omega (arith, held_count t k))) in
         record { few = h.few; longest = omega (arith, h.longest, ap from (q ∙ add-one low)) }
 
     pub masked_all : t.n ≤ low → masked ≡ B ts i
-    masked_all l = omega (arith, h.longest, ap largest_mIn (drop_of_length-le ts {i = low} (omega (arith, held_count t k))))
+    masked_all l = omega (arith, h.longest, ap largest_m_in (drop_of_length-le ts {i = low} (omega (arith, held_count t k))))
 
   -- ---- e, of a vertex of the task
 

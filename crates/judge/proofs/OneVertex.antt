@@ -374,19 +374,19 @@ module _ (asked : Asked) where
 
           shown_are : shown_paths us (meant_by r.ending ws) ≡ take shown ws
           shown_are =
-              ap (λ (ps : List Path). shown_paths ps (meant_by r.ending ws)) (meets_paths asks)
+              ap (λ (ps : List Path). shown_paths ps (meant_by r.ending ws)) (meets_paths_lem asks)
               ∙ written_are asks ks d few_paths e b e_light r ran_front ∙ ap (λ (n : ℕ). take (written asks r.ending n) ws) (many t k i task_in_lem d)
             where
-              meets_paths : (z : Said.Asked) → meets_paths z ts i v ≡ meets_of z ks e d
-              meets_paths Said.plain = refl
-              meets_paths Said.latest = ap (meets_of Said.latest ks e) (sym d_is)
+              meets_paths_lem : (z : Said.Asked) → meets_paths z ts i v ≡ meets_of z ks e d
+              meets_paths_lem Said.plain = refl
+              meets_paths_lem Said.latest = ap (meets_of Said.latest ks e) (sym d_is)
 
           tick_is : r.finish ≡ beside (meant_by r.ending ws) tick
-          tick_is = finish_is asks ks d few_paths e b e_light r ran_front ∙ ap (beside (meant_by r.ending ws)) (last_tick asks)
+          tick_is = finish_is asks ks d few_paths e b e_light r ran_front ∙ ap (beside (meant_by r.ending ws)) (last_tick_lem asks)
             where
-              last_tick : (z : Said.Asked) → (last_bar z e d (top_of ks d)).tick ≡ last_tick z ts i v
-              last_tick Said.plain = d_is
-              last_tick Said.latest = ap (λ (y : ℕ). worst load_of e y (top_of ks y)) d_is
+              last_tick_lem : (z : Said.Asked) → (last_bar z e d (top_of ks d)).tick ≡ last_tick z ts i v
+              last_tick_lem Said.plain = d_is
+              last_tick_lem Said.latest = ap (λ (y : ℕ). worst load_of e y (top_of ks y)) d_is
 
           pub finish-fits : r.finish ≤ largest_d + 1
           finish-fits = omega (arith, finish_low asks ks d few_paths e b e_light r ran_front, d_bounds.1)

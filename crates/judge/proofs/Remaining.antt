@@ -12,7 +12,7 @@ use Rattle.meaning.specs.Lists.{count_from}
 use Rattle.meaning.specs.Table.{Task, Table, no_task, task_at}
 use Rattle.meaning.specs.Sound.{SoundTable}
 use Rattle.meaning.specs.Whole.{Place, places_from, places}
-use Rattle.meaning.proofs.Lists.{mem_get_d}
+use Rattle.meaning.proofs.Lists.{mem_get_or}
 use Rattle.table.specs.declared.Table as Record
 use Rattle.table.specs.Inner.{table_of, Held}
 use Rattle.counts.specs.Place.{first_place, next_place, Within}
@@ -83,7 +83,7 @@ pub record Reached (ts : Table) (q : Place) : Type 0 where
   pub left : (p : Place) → Memᴰ p (remaining ts q) → Memᴰ p (places ts)
 
 some_vertex_lem : (ts : Table) → SoundTable ts → (i : ℕ) → i < length ts → 0 < size ts i
-some_vertex_lem ts s i h = omega (arith, (s.each_task (task_at ts i) (mem_get_d no_task ts i h)).some_vertex)
+some_vertex_lem ts s i h = omega (arith, (s.each_task (task_at ts i) (mem_get_or no_task ts i h)).some_vertex)
 
 pub reached_first : (ts : Table) → SoundTable ts → Reached ts first_place
 reached_first ts s = record { low = omega arith; vertex = some_vertex_lem ts s 0; left = λ p m. subst (Memᴰ p) (remaining-first ts) m }

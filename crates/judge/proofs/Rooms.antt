@@ -12,7 +12,7 @@ use Rattle.meaning.specs.Table.{no_task, no_vertex, task_at, vertex_at}
 use Rattle.meaning.specs.Verdict.{deadline}
 use Rattle.meaning.specs.Sound.{SoundTable}
 use Rattle.meaning.specs.Whole.{Place, places}
-use Rattle.meaning.proofs.Lists.{mem_get_d}
+use Rattle.meaning.proofs.Lists.{mem_get_or}
 use Rattle.meaning.proofs.Counts.{places_few}
 use Rattle.meaning.proofs.Whole.{place_in}
 use Rattle.table.specs.declared.Table.{Table}
@@ -43,7 +43,7 @@ module _ (ts : Meant.Table) (s : SoundTable ts) where
   vertex_most q m =
       let p = place_in ts q m in
       let k = task_at ts q.task in
-      let job = (s.each_task k (mem_get_d no_task ts q.task p.0)).each_vertex (vertex_at k q.vertex) (mem_get_d no_vertex k.vertices q.vertex p.1) in
+      let job = (s.each_task k (mem_get_or no_task ts q.task p.0)).each_vertex (vertex_at k q.vertex) (mem_get_or no_vertex k.vertices q.vertex p.1) in
       let few : q.task ≤ most_higher = omega (arith, s.task_count, p.0) in
       let short : path_line (deadline ts q.task q.vertex) ≤ path_line largest_d = omega (arith, job.most_d) in
       omega (arith, mul-le-mul few short)

@@ -17,7 +17,7 @@ use Rattle.meaning.specs.Paths.{paths_of}
 use Rattle.meaning.specs.Verdict.{Verdict, refused, deadline, Asked}
 use Rattle.meaning.specs.Areas.{rows_for, rows_of, work_need, witness_need}
 use Rattle.meaning.specs.Judge.{Row, crowded, row8, row9, row10, row11, unless_refused, judged}
-use Rattle.meaning.proofs.Lists.{get_d_mapped, and_false}
+use Rattle.meaning.proofs.Lists.{get_or_mapped, and_false}
 use Rattle.meaning.proofs.Refusals.{first_row, row_none, row_some}
 use Rattle.meaning.proofs.Verdicts.{walked_at}
 use Rattle.areas.specs.Above.{rows_in, path_counts}
@@ -50,7 +50,7 @@ module _ (ts : Meant.Table) (i d : ℕ) (w : i ≤ length ts) where
   over k = ltb most_paths (length (paths_of (task_at ts k) d))
 
   count_is : (k : ℕ) → k < i → get_or ns k 0 ≡ length (paths_of (task_at ts k) d)
-  count_is k m = get_d_mapped (λ (x : Meant.Task). length (paths_of x d)) 0 no_task (higher ts i) k (omega (arith, many))
+  count_is k m = get_or_mapped (λ (x : Meant.Task). length (paths_of x d)) 0 no_task (higher ts i) k (omega (arith, many))
       ∙ ap (λ (x : Meant.Task). length (paths_of x d)) (get_or-take i ts k no_task m)
     where
       many : length (take i ts) ≡ i
@@ -102,9 +102,9 @@ module _ (asked : Asked) (ts : Meant.Table) (i v b lw lx : ℕ) where
   abbrev r11 : Row
   r11 = row11 ts i v lx
 
-  pub no_task : length ts ≤ i → J ≡ refused 8 0
+  pub no_task_lem : length ts ≤ i → J ≡ refused 8 0
   unfolding judged
-  no_task h = ap (λ o. unless_refused o (walked_at asked ts i v b)) (row_some r8 (r9 ∷ r10 ∷ r11 ∷ []) (rw (le-ltb i (length ts) h)))
+  no_task_lem h = ap (λ o. unless_refused o (walked_at asked ts i v b)) (row_some r8 (r9 ∷ r10 ∷ r11 ∷ []) (rw (le-ltb i (length ts) h)))
 
   pub no_vertex_lem : length (task_at ts i).vertices ≤ v → J ≡ refused 8 0
   unfolding judged

@@ -4,7 +4,7 @@ use mathlib.Core.List.{Memᴰ}
 use lib.ListN.{replicate}
 use native.Mathlib.Nat.{le_trans}
 use Rattle.meaning.specs.Table.{no_task, no_vertex, task_at, vertex_at}
-use Rattle.meaning.proofs.Lists.{mem_get_d}
+use Rattle.meaning.proofs.Lists.{mem_get_or}
 use Rattle.meaning.proofs.Readable.{read_sound}
 use Rattle.meaning.proofs.PathsOf.{paths_short}
 use Rattle.meaning.proofs.Answers.{sound_higher}
@@ -22,8 +22,8 @@ slower_cradles =
           let s = read_sound text ts e in
           let p = place_in ts q m in
           let own = task_at ts q.task in
-          let task = s.each_task own (mem_get_d no_task ts q.task p.0) in
-          let job = task.each_vertex (vertex_at own q.vertex) (mem_get_d no_vertex own.vertices q.vertex p.1) in
+          let task = s.each_task own (mem_get_or no_task ts q.task p.0) in
+          let job = task.each_vertex (vertex_at own q.vertex) (mem_get_or no_vertex own.vertices q.vertex p.1) in
           le_trans (paths_short k (sound_higher ts q.task s k n) _ job.some_d w z) job.most_d;
       reached = (
         long_text,

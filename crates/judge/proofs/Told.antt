@@ -32,7 +32,7 @@ use Rattle.sheet.specs.Sheet.{refused_at, no_such_vertex, area_rows, said_of}
 use Rattle.sheet.proofs.Needs.{row_10, row_11, rows_passed, same_at, not_refused}
 use Rattle.judge.specs.Judged.{AnsweredBy}
 use Rattle.judge.specs.Inner.{Answered, VertexJudged, There}
-use Rattle.judge.proofs.Sheet.{no_task, no_vertex_lem}
+use Rattle.judge.proofs.Sheet.{no_task_lem, no_vertex_lem}
 
 -- a refusal changes nothing
 pub answer_refused : (J : Said.Verdict) (us : List Path) (t : ℕ) (ρ : Refusal) (place need : ℕ) (work wit : List ℕ) {r : Lateness}
@@ -66,7 +66,7 @@ module _ (asks : Said.Asked) (t : Table) (k : Held t) (i v b : ℕ) (work wit : 
   -- "no such task or vertex"
   pub answer_8 : t.n ≤ i → {r : Lateness} → r ≡ no_such_vertex → Refuses r
   answer_8 h e =
-      answer_refused _ _ _ NoSuchVertex 0 _ work wit e (no_task asks (table_of t) i v b (length work) (length wit) (omega (arith, held_count t k)))
+      answer_refused _ _ _ NoSuchVertex 0 _ work wit e (no_task_lem asks (table_of t) i v b (length work) (length wit) (omega (arith, held_count t k)))
 
   pub answer_8_vertex : i < t.n → (own_task t i).nv ≤ v → {r : Lateness} → r ≡ no_such_vertex → Refuses r
   answer_8_vertex l h e = answer_refused _ _ _ NoSuchVertex 0 _ work wit e

@@ -1,6 +1,8 @@
 // "Tick counts, task numbers and vertex numbers are kept as kinds that can't be mixed." Each has the width of its frames.
 //
 // "A refusal is carried inside the verdict as a number and its place": the verdict's refused case holds the refusal and its line, task or cell count.
+#![tactic(auto)]
+
 ghost use Rattle.std.specs.Prelude.{◌≡◌, min, max, get_or};
 ghost use Rattle.kinds.specs.Numbers.{refusal_number, verdict_numbers, verdict_in, lateness_numbers};
 

@@ -9,7 +9,7 @@ use lib.Seq.{drop-drop}
 use lib.Dec.{leb}
 use Rattle.meaning.specs.Bounds.{most_vertices, most_edges}
 use Rattle.meaning.specs.Table as Meant
-use Rattle.meaning.specs.Table.{largest_eIn}
+use Rattle.meaning.specs.Table.{largest_e_in}
 use Rattle.meaning.specs.Text.{lines_of, begun, ring_to, gear_to, Reading, unreadable, read_from}
 use Rattle.kinds.specs.declared.Refusal.TheVariants.{OutOfBounds}
 use Rattle.kinds.specs.declared.Ticks.{Ticks}
@@ -36,9 +36,9 @@ use Rattle.rules.proofs.Order.{follows_none}
 use Rattle.lines.proofs.Reach.{Reach}
 
 -- the vertices that a record holds have the largest e of those that it is the record of
-largest-held : (Y : List Meant.Vertex) → largest_of (length Y) (vertices_record Y) ≡ largest_eIn Y
+largest-held : (Y : List Meant.Vertex) → largest_of (length Y) (vertices_record Y) ≡ largest_e_in Y
 unfolding largest_of
-largest-held Y = ap (λ (k : Meant.Task). largest_eIn k.vertices) (task-of_record (Meant.task 0 Y []))
+largest-held Y = ap (λ (k : Meant.Task). largest_e_in k.vertices) (task-of_record (Meant.task 0 Y []))
 
 module _ (ts : List Meant.Task) (l v e : ℕ) (m : Ticks) (t : List ℕ) (some : 1 ≤ v) (v_in : v ≤ most_vertices) (e_in : e ≤ most_edges) where
   abbrev rest : List ℕ
@@ -80,12 +80,12 @@ module _ (ts : List Meant.Task) (l v e : ℕ) (m : Ticks) (t : List ℕ) (some :
   with_vertices : (R : Reading) (a : VertexLines) → VerticesGive R ts m.0 e l v (drop (v * part_bytes) t) a
       → TaskGives R ts l t (task_with v e m a (edge_lines v a.vertices e (drop (v * part_bytes) t)))
   with_vertices R a (vertices_stopped w i vs q) = task_stopped w i q
-  with_vertices R a (all-vertices Y ly q) = go (leb m.0 (largest_eIn Y)) refl
+  with_vertices R a (all-vertices Y ly q) = go (leb m.0 (largest_e_in Y)) refl
     where
-      same : covers v m (vertices_record Y) ≡ leb m.0 (largest_eIn Y)
+      same : covers v m (vertices_record Y) ≡ leb m.0 (largest_e_in Y)
       same = ap (λ (n : ℕ). covers n m (vertices_record Y)) (sym ly) ∙ ap (leb m.0) (largest-held Y)
 
-      go : (x : Bool) → leb m.0 (largest_eIn Y) ≡ x → TaskGives R ts l t (task_with v e m (took_vertices AllTaken (length Y) (vertices_record Y))
+      go : (x : Bool) → leb m.0 (largest_e_in Y) ≡ x → TaskGives R ts l t (task_with v e m (took_vertices AllTaken (length Y) (vertices_record Y))
           (edge_lines v (vertices_record Y) e (drop (v * part_bytes) t)))
       go true h = rw (same, h) (with_covered R Y ly (q ∙ rw h))
       go false h =

@@ -6,6 +6,8 @@
 //
 // The lines of a task: those of its vertices, then those of its edges, or those of a ring's or a gear table's vertices; each until the first that is
 // refused.
+#![tactic(auto)]
+
 ghost use Rattle.std.specs.Prelude.{◌≡◌, ◌≤◌, ◌<◌, length, drop};
 ghost use Rattle.meaning.specs.Bounds.{most_vertices, most_edges};
 ghost use Rattle.digits.specs.Digits.{Worths};

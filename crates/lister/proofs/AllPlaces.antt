@@ -18,7 +18,7 @@ use Rattle.ways.specs.Ways.{ways, all_ways, on_by, vertices_by, path_by}
 use Rattle.lister.specs.Place.{Found, path_record}
 use Rattle.ways.proofs.Taken.{way_short}
 use Rattle.ways.proofs.Ways.{all_ways_none, all_ways_more}
-use Rattle.lister.proofs.Places.{get_d_on_by, not_both, same_length, same_place}
+use Rattle.lister.proofs.Places.{get_or-on_by, not_both, same_length, same_place}
 
 -- a path stored into zeros is padded with them
 stored : (w : List ℕ) → length w ≤ largest_d → sets (replicate largest_d 0) 0 w ≡ padded largest_d 0 w
@@ -78,7 +78,7 @@ module _ {start to p : List ℕ} {n d i : ℕ} {cs : List ℕ} {left v : ℕ} (g
         let w : get_or (all_ways start to p d 0 n) i [] ≡ v ∷ H =
         sym g.place ∙ ap (λ (b : List (List ℕ)). get_or b left []) (all_ways_more start to p d v n h)
         ∙ get_or-append (on_by v (ways start to p v d)) (all_ways start to p d (v + 1) n) [] left (omega (arith, on_len))
-        ∙ get_d_on_by v (ways start to p v d) left y in
+        ∙ get_or-on_by v (ways start to p v d) left y in
         let q : 0 + 1 + length H ≡ length (vertices_by to v H) = omega (arith, length-map H (λ (k : ℕ). get_or to k 0)) in
         let l = way_short start to p so v d left (omega arith) hd y in
         let z : length (vertices_by to v H) ≤ largest_d = omega arith in

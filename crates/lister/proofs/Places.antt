@@ -18,10 +18,10 @@ use Rattle.lister.specs.Place.{Found}
 use Rattle.meaning.proofs.Stores.{set-sets}
 use Rattle.ways.proofs.Ways.{by_edges, step_no, step_yes, length_yes, by_edges_none, ways_step, or_stop_some, length_zero}
 
-pub get_d_on_by : (k : ℕ) (hs : List (List ℕ)) (i : ℕ) → i < length hs → get_or (on_by k hs) i [] ≡ k ∷ get_or hs i []
-get_d_on_by k [] i h = absurd (omega arith)
-get_d_on_by k (x ∷ hs) zero h = refl
-get_d_on_by k (x ∷ hs) (suc i) h = get_d_on_by k hs i (omega arith)
+pub get_or-on_by : (k : ℕ) (hs : List (List ℕ)) (i : ℕ) → i < length hs → get_or (on_by k hs) i [] ≡ k ∷ get_or hs i []
+get_or-on_by k [] i h = absurd (omega arith)
+get_or-on_by k (x ∷ hs) zero h = refl
+get_or-on_by k (x ∷ hs) (suc i) h = get_or-on_by k hs i (omega arith)
 
 -- ---- the loop of `path_from`
 
@@ -127,7 +127,7 @@ module _ {start to p : List ℕ} {v r i end : ℕ} {A cs : List ℕ} {k left : �
           let w : get_or (ways start to p v r) i [] ≡ k ∷ H =
           ap (λ (b : List (List ℕ)). get_or b i []) all ∙ sym g.place ∙ ap (λ (b : List (List ℕ)). get_or b left []) split
           ∙ get_or-append (on_by k on) (by_edges start to p r (k + 1) end) [] left (omega (arith, on_length))
-          ∙ get_d_on_by k on left y in
+          ∙ get_or-on_by k on left y in
           let z : depth + 1 + 1 + length H ≡ depth + 1 + suc (length H) = omega arith in
           record {
             hit = λ x. record {

@@ -2,6 +2,8 @@
 // more. [..] Complete paths are ordered as lists of vertex numbers, first difference first." "A path may now have 1,000 vertices".
 //
 // Over a task's columns: how many complete paths there are for a horizon, and the one at a place of the order.
+#![tactic(auto)]
+
 pub mod count;
 mod follow;
 pub mod place;

@@ -3,6 +3,8 @@
 // Over a task's columns, the loads of each complete path at t from 1 to d, in every other row of a stretch. They are written by runs, since a path's
 // load stays the same from one release to the next. One recursion over the edges goes on from a prefix, whose loads stand in the row of the first path that
 // begins with it and are copied to the row of each other.
+#![tactic(auto)]
+
 mod follow;
 mod runs;
 

@@ -12,7 +12,7 @@ use lib.Seq.{get_or-append_seam}
 use lib.Dec.{T, ltb, leb, eqb, leb→le, ltb→lt, eqb→eq}
 use Rattle.meaning.specs.Lists.{pick, Rising}
 use Rattle.meaning.specs.Bounds.{most_tasks, most_vertices, most_edges, largest_p, largest_m}
-use Rattle.meaning.specs.Table.{Vertex, Edge, Task, Table, vertex, edge, task, no_vertex, largest_eIn}
+use Rattle.meaning.specs.Table.{Vertex, Edge, Task, Table, vertex, edge, task, no_vertex, largest_e_in}
 use Rattle.meaning.specs.Text.{Begun, closed, Step, on, over, wrong, within}
 use Rattle.meaning.specs.Text.{task_frame, mask_fits, vertex_frame, after_last, edge_frame, ring_to, gear_to, vendor_frame, link_frame}
 use Rattle.meaning.specs.Sound.{SoundVertex, SoundEdge, EdgeBefore, SoundTask, AllSound, SoundTable}
@@ -104,7 +104,7 @@ pub record HeldSoFar (n : ℕ) (s : Begun) : Type 0 where
   pub vertex_count : length s.vertices + s.want_v ≤ most_vertices
   pub edge_count : length s.edges + s.want_e ≤ most_edges
   pub mask : s.m ≤ largest_m
-  pub covered : s.want_v ≡ 0 → s.m ≤ largest_eIn s.vertices
+  pub covered : s.want_v ≡ 0 → s.m ≤ largest_e_in s.vertices
   pub vertices : (x : Vertex) → Memᴰ x s.vertices → SoundVertex x
   pub edges : (x : Edge) → Memᴰ x s.edges → HeldEdge s.vertices (length s.vertices + s.want_v) x
   pub rising : Rising EdgeBefore s.edges
@@ -191,8 +191,8 @@ task_ok n s v e least m c h =
     })
 
 -- behind the last vertex
-fits_last : (s : Begun) (vs : List Vertex) → T (mask_fits s vs) → s.want_v - 1 ≡ 0 → s.m ≤ largest_eIn vs
-fits_last s vs t z = leb→le s.m (largest_eIn vs) (subst (λ (b : Bool). T (b || leb s.m (largest_eIn vs))) (le-ltb 1 s.want_v (omega (arith, z))) t)
+fits_last : (s : Begun) (vs : List Vertex) → T (mask_fits s vs) → s.want_v - 1 ≡ 0 → s.m ≤ largest_e_in vs
+fits_last s vs t z = leb→le s.m (largest_e_in vs) (subst (λ (b : Bool). T (b || leb s.m (largest_e_in vs))) (le-ltb 1 s.want_v (omega (arith, z))) t)
 
 pub within_true : (low high n : ℕ) → low ≤ n → n ≤ high → within low high n ≡ true
 within_true low high n a b = rw (le-leb low n a, le-leb n high b)

@@ -9,7 +9,7 @@ use mathlib.Core.List.Memᴰ
 use mathlib.Core.List.{List, [], ◌∷◌, ◌++◌, map, append-nil, Memᴰ}
 use lib.ListN.{length, take, drop, take-append-drop, length-take, length-drop}
 use lib.Dec.{T, ltb, ltb→lt, lt→ltb}
-use Rattle.meaning.specs.Lists.{all, gather, sum}
+use Rattle.meaning.specs.Lists.{gather, sum}
 use Rattle.meaning.specs.Groups.{choice_loads, choice_overloads, choice_finish, range_load, group_loads, overloads, group_finish, half, first_part, second_part}
 use Rattle.meaning.specs.Groups.{long, single, child_by, choices}
 use Rattle.meaning.specs.Walk.{first_child, second_child, full, heads}

@@ -1,5 +1,5 @@
 -- The worst finish of a vertex: reached by complete paths, the first in order, and no legal paths of any length finish later.
-use mathlib.Core.Path.{◌≡◌, refl, sym, ap, subst, subst₂, ◌∙◌}
+use mathlib.Core.Path.{◌≡◌, sym, ap, subst, subst₂, ◌∙◌}
 use Prim.Native.Nat.{ℕ, ◌+◌, ◌≤◌, ◌<◌}
 use native.Mathlib.Omega.{arith}
 use native.Mathlib.Decide.{dec_lt}
@@ -7,7 +7,7 @@ use mathlib.Core.Bool.{Bool}
 use mathlib.Core.Logic.{◌⊎◌, inl, inr}
 use mathlib.Core.Option.{Option, some}
 use mathlib.Core.List.{List, []}
-use lib.Dec.{T, eqb, lt→ltb, ltb→lt}
+use lib.Dec.{T, eqb, lt→ltb}
 use borrow.Author.Tests.{eq-eqb}
 use Rattle.meaning.specs.Lists.{or_given}
 use Rattle.meaning.specs.Table.{Task, Table, higher}

@@ -86,10 +86,10 @@ module _ {X : Type 0} where
   mem_take (suc n) (y ∷ ys) (Memᴰ.head q) = Memᴰ.head q
   mem_take (suc n) (y ∷ ys) (Memᴰ.tail m) = Memᴰ.tail (mem_take n ys m)
 
-  pub mem_get_d : (z : X) (xs : List X) (i : ℕ) → i < length xs → Memᴰ (get_or xs i z) xs
-  mem_get_d z [] i h = absurd (omega arith)
-  mem_get_d z (x ∷ xs) zero h = Memᴰ.head refl
-  mem_get_d z (x ∷ xs) (suc i) h = Memᴰ.tail (mem_get_d z xs i (omega arith))
+  pub mem_get_or : (z : X) (xs : List X) (i : ℕ) → i < length xs → Memᴰ (get_or xs i z) xs
+  mem_get_or z [] i h = absurd (omega arith)
+  mem_get_or z (x ∷ xs) zero h = Memᴰ.head refl
+  mem_get_or z (x ∷ xs) (suc i) h = Memᴰ.tail (mem_get_or z xs i (omega arith))
 
   pub mem_drop : (n : ℕ) (xs : List X) {x : X} → Memᴰ x (drop n xs) → Memᴰ x xs
   mem_drop zero xs m = m
@@ -122,10 +122,10 @@ module _ {X Y : Type 0} where
       go ih (inl k) = (z, Memᴰ.head refl, k)
       go ih (inr k) = let r = ih k in (r.0, Memᴰ.tail r.1, r.2)
 
-  pub get_d_mapped : (f : X → Y) (z : Y) (w : X) (xs : List X) (i : ℕ) → i < length xs → get_or (map f xs) i z ≡ f (get_or xs i w)
-  get_d_mapped f z w [] i h = absurd (omega arith)
-  get_d_mapped f z w (x ∷ xs) zero h = refl
-  get_d_mapped f z w (x ∷ xs) (suc i) h = get_d_mapped f z w xs i (omega arith)
+  pub get_or_mapped : (f : X → Y) (z : Y) (w : X) (xs : List X) (i : ℕ) → i < length xs → get_or (map f xs) i z ≡ f (get_or xs i w)
+  get_or_mapped f z w [] i h = absurd (omega arith)
+  get_or_mapped f z w (x ∷ xs) zero h = refl
+  get_or_mapped f z w (x ∷ xs) (suc i) h = get_or_mapped f z w xs i (omega arith)
 
   pub gather_append : (f : X → List Y) (xs ys : List X) → gather f (xs ++ ys) ≡ gather f xs ++ gather f ys
   gather_append f [] ys = refl
@@ -168,10 +168,10 @@ pub length-count_from : (k n : ℕ) → length (count_from k n) ≡ n
 length-count_from k zero = refl
 length-count_from k (suc n) = ap suc (length-count_from (suc k) n)
 
-pub get_d_count_from : (k n i : ℕ) → i < n → get_or (count_from k n) i 0 ≡ k + i
-get_d_count_from k zero i h = absurd (omega arith)
-get_d_count_from k (suc n) zero h = sym (add-zero k)
-get_d_count_from k (suc n) (suc i) h = get_d_count_from (suc k) n i (omega arith) ∙ omega arith
+pub get_or-count_from : (k n i : ℕ) → i < n → get_or (count_from k n) i 0 ≡ k + i
+get_or-count_from k zero i h = absurd (omega arith)
+get_or-count_from k (suc n) zero h = sym (add-zero k)
+get_or-count_from k (suc n) (suc i) h = get_or-count_from (suc k) n i (omega arith) ∙ omega arith
 
 pub mem_count_from : (k n v : ℕ) → k ≤ v → v < k + n → Memᴰ v (count_from k n)
 mem_count_from k zero v a b = absurd (omega arith)
@@ -189,7 +189,7 @@ pub count_length_lem : {Y : Type 0} (f : ℕ → Y) (k n : ℕ) → length (map 
 count_length_lem f k n = length-map (count_from k n) f ∙ length-count_from k n
 
 pub count_at : {Y : Type 0} (f : ℕ → Y) (z : Y) (k n i : ℕ) → i < n → get_or (map f (count_from k n)) i z ≡ f (k + i)
-count_at f z k n i h = get_d_mapped f z 0 (count_from k n) i (omega (arith, length-count_from k n)) ∙ ap f (get_d_count_from k n i h)
+count_at f z k n i h = get_or_mapped f z 0 (count_from k n) i (omega (arith, length-count_from k n)) ∙ ap f (get_or-count_from k n i h)
 
 -- one number more
 pub count_more : {Y : Type 0} (f : ℕ → Y) (k n : ℕ) → map f (count_from k (suc n)) ≡ map f (count_from k n) ++ (f (k + n) ∷ [])

@@ -11,7 +11,7 @@ use Rattle.meaning.specs.Table.{Vertex, Task, no_vertex}
 use Rattle.meaning.specs.Paths.{Path, separation, execution, between, linked, legal, load}
 use Rattle.meaning.specs.Groups.{range_load}
 use Rattle.meaning.specs.Sound.{SoundTask}
-use Rattle.meaning.proofs.Lists.{both_left, both_right, mem_get_d}
+use Rattle.meaning.proofs.Lists.{both_left, both_right, mem_get_or}
 use Rattle.meaning.proofs.Edges.{sound_spaced, out_spaced, link-edge}
 use Rattle.meaning.proofs.Loads.{run_on, load_run, run_mono}
 
@@ -38,7 +38,7 @@ module _ (k : Task) (s : SoundTask k) where
   execution_bound : (v : ℕ) → execution k v ≤ largest_e
   unfolding execution
   execution_bound v = elim (dec_lt v (length k.vertices)) [
-    | yes h ↦ (s.each_vertex (get_or k.vertices v no_vertex) (mem_get_d no_vertex k.vertices v h)).most_e
+    | yes h ↦ (s.each_vertex (get_or k.vertices v no_vertex) (mem_get_or no_vertex k.vertices v h)).most_e
     | no h ↦ omega (arith, ap (λ (x : Vertex). x.e) (get_or-eq_default k.vertices no_vertex {n = v} (omega arith)))
   ]
 

@@ -15,7 +15,7 @@ use Rattle.meaning.specs.Lists.{pick, sum, gather, below}
 use Rattle.meaning.specs.Bounds.{most_tasks, most_vertices, most_edges, largest_m, line_length}
 use Rattle.meaning.specs.Table.{Vertex, Task, Table, vertex, edge, task}
 use Rattle.meaning.specs.Text.{line, Line, line_feed, into_first, lines_of, digit_of, byte_with, hex_bytes, frame_of, is_frame, word}
-use Rattle.meaning.specs.Text.{Begun, nothing, closed, Step, on, over, wrong, within, task_frame, vertex_frame, edge_frame}
+use Rattle.meaning.specs.Text.{Begun, nothing, closed, Step, on, over, wrong, task_frame, vertex_frame, edge_frame}
 use Rattle.meaning.specs.Text.{ring_to, gear_to, vendor_frame, link_frame, framed}
 use Rattle.meaning.specs.Text.{step_at, Reading, readable, unreadable, at_end, read_from, read}
 use Rattle.meaning.specs.Sound.{SoundTask, AllSound}

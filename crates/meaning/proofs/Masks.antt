@@ -1,17 +1,16 @@
 -- Masked lengths play no part in paths and their loads, in what a vertex needs of an area, or in a refusal.
-use mathlib.Core.Path.{◌≡◌, refl, sym, ap, ap₂, fun_ext, ◌∙◌}
+use mathlib.Core.Path.{◌≡◌, refl, ap, ap₂, fun_ext, ◌∙◌}
 use Prim.Native.Nat.{ℕ, zero, suc, ◌+◌, ◌-◌, ◌*◌}
 use mathlib.Core.Bool.{Bool, not, ◌&&◌}
-use mathlib.Core.Option.{Option}
 use mathlib.Core.List.{List, [], ◌∷◌, ◌++◌, map, map-map}
 use lib.ListN.{length, get_or, length-map}
 use lib.Dec.{ltb}
 use Rattle.meaning.specs.Lists.{those, sum, largest, gather, first_that, below}
 use Rattle.meaning.specs.Bounds.{most_paths}
 use Rattle.meaning.specs.Table.{Edge, Task, Table, no_task, vertex_at, task_at, higher, unmasked}
-use Rattle.meaning.specs.Paths.{Path, out_of, between, linked, legal, separation, span_on, span, execution, total, prefixes, load, or_alone, paths_from, complete_paths, paths_of}
-use Rattle.meaning.specs.Verdict.{Listed, listed, top_of, deadline, top_at}
-use Rattle.meaning.specs.Areas.{rows_for, rows_of, work_need, witness_need}
+use Rattle.meaning.specs.Paths.{Path, out_of, between, linked, legal, separation, span_on, span, execution, total, prefixes, load, or_alone, paths_from, paths_of}
+use Rattle.meaning.specs.Verdict.{listed, top_of, deadline, top_at}
+use Rattle.meaning.specs.Areas.{rows_for, rows_of, work_need}
 use Rattle.meaning.specs.Whole.{Place, places_from, places}
 use Rattle.meaning.specs.Judge.{Row, crowded, row8, row9, row10, row11, refusal}
 use Rattle.meaning.proofs.Lists.{take-map}

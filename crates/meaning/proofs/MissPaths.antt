@@ -15,7 +15,7 @@ use Rattle.meaning.specs.Verdict.{misses, Asked, deadline, C}
 use Rattle.meaning.specs.Judge.{judged}
 use Rattle.meaning.specs.Sound.{SoundVertex, SoundTask, SoundTable, AllSound}
 use Rattle.meaning.specs.Demands.{First, Completes}
-use Rattle.meaning.proofs.Lists.{both_left, both_right, mem_get_d, those_mem}
+use Rattle.meaning.proofs.Lists.{both_left, both_right, mem_get_or, those_mem}
 use Rattle.meaning.proofs.Edges.{link-edge}
 use Rattle.meaning.proofs.PathsOf.{paths_legal, paths_short}
 use Rattle.meaning.proofs.Verdicts.{W, witness_first, decided_misses, judged_given}
@@ -75,7 +75,7 @@ module _ (ts : Table) (s : SoundTable ts) (i v : ℕ) (p : i < length ts) (u : v
   miss_count = completes_count (deadline ts i v) (higher ts i) ws first.complete ∙ length-take-le i ts (omega arith)
 
   own : SoundVertex (vertex_at (task_at ts i) v)
-  own = let k = task_at ts i in (s.each_task k (mem_get_d no_task ts i p)).each_vertex (vertex_at k v) (mem_get_d no_vertex k.vertices v u)
+  own = let k = task_at ts i in (s.each_task k (mem_get_or no_task ts i p)).each_vertex (vertex_at k v) (mem_get_or no_vertex k.vertices v u)
 
   pub miss_fits : (w : Path) → Memᴰ w ws → Fits (deadline ts i v) w
   miss_fits w m = completes_fit (deadline ts i v) (higher ts i) ws (sound_higher ts i s) own.some_d first.complete w m

@@ -15,7 +15,7 @@ use Rattle.meaning.specs.Verdict.{deadline}
 use Rattle.meaning.specs.Areas.{work_need, witness_need}
 use Rattle.meaning.specs.Judge.{Row, crowded, row8, row9, row10, row11, refusal}
 use Rattle.meaning.specs.Sound.{SoundVertex, SoundTable}
-use Rattle.meaning.proofs.Lists.{both_left, both_right, mem_get_d}
+use Rattle.meaning.proofs.Lists.{both_left, both_right, mem_get_or}
 use Rattle.meaning.proofs.Firsts.{first_hit, first_skip}
 
 -- ---- rows in order
@@ -96,4 +96,4 @@ pub admitted_sound : (ts : Table) → SoundTable ts → (i v work wit : ℕ) →
 admitted_sound ts s i v work wit q =
     let a = none_admits ts i v work wit q in
     let k = task_at ts i in
-    (s.each_task k (mem_get_d no_task ts i a.task)).each_vertex (vertex_at k v) (mem_get_d no_vertex k.vertices v a.vertex)
+    (s.each_task k (mem_get_or no_task ts i a.task)).each_vertex (vertex_at k v) (mem_get_or no_vertex k.vertices v a.vertex)

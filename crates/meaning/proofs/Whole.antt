@@ -18,7 +18,7 @@ use Rattle.meaning.specs.Areas.{witness_need}
 use Rattle.meaning.specs.Judge.{Row, row8, row9, row10, row11, refusal, unless_refused, judged}
 use Rattle.meaning.specs.Whole.{Place, places_from, places, verdict_at}
 use Rattle.meaning.specs.Sound.{SoundTable}
-use Rattle.meaning.proofs.Lists.{count_from_mem, mem_get_d}
+use Rattle.meaning.proofs.Lists.{count_from_mem, mem_get_or}
 use Rattle.meaning.proofs.Refusals.{first_row, row_none, row_some}
 use Rattle.meaning.proofs.Verdicts.{walked_at, judged_refused, judged_row}
 
@@ -127,8 +127,8 @@ pub desk_witness_lem : (ts : Table) → SoundTable ts → (q : Place) → Memᴰ
 desk_witness_lem ts s q m =
     let p = place_in ts q m in
     let k = task_at ts q.task in
-    let sound = s.each_task k (mem_get_d no_task ts q.task p.0) in
+    let sound = s.each_task k (mem_get_or no_task ts q.task p.0) in
     let short : 1 + deadline ts q.task q.vertex ≤ 1 + largest_d =
-    omega (arith, (sound.each_vertex (vertex_at k q.vertex) (mem_get_d no_vertex k.vertices q.vertex p.1)).most_d) in
+    omega (arith, (sound.each_vertex (vertex_at k q.vertex) (mem_get_or no_vertex k.vertices q.vertex p.1)).most_d) in
     let few : q.task ≤ 7 = omega (arith, s.task_count, p.0) in
     le_trans (mul-le-mul few short) (omega arith)

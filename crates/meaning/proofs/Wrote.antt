@@ -9,7 +9,7 @@ use lib.ListN.{length, set, take, drop, get_or, length-append, take-append-drop}
 use lib.Seq.{sets, length-sets, sets-eq, take-suc, take_all, drop-cons}
 use Rattle.meaning.specs.Lists.{gather, below}
 use Rattle.meaning.specs.Areas.{Wrote, written}
-use Rattle.meaning.proofs.Lists.{gather_append, length-count_from, get_d_count_from}
+use Rattle.meaning.proofs.Lists.{gather_append, length-count_from, get_or-count_from}
 
 -- one run of stores and then another
 pub sets-append : (l : List ℕ) (i : ℕ) (xs ys : List ℕ) → sets l i (xs ++ ys) ≡ sets (sets l i xs) (i + length xs) ys
@@ -80,7 +80,7 @@ module _ {X : Type 0} (f : X → List ℕ) (xs : List X) where
 
 module _ (f : ℕ → List ℕ) (n : ℕ) where
   at_place : (j : ℕ) → j < n → f (get_or (below n) j 0) ≡ f j
-  at_place j h = ap f (get_d_count_from 0 n j h ∙ zero-add j)
+  at_place j h = ap f (get_or-count_from 0 n j h ∙ zero-add j)
 
   module _ {before now : List ℕ} {from at j : ℕ} (g : Gathering f (below n) before from now at j) where
     pub counting_more : {after : List ℕ} {next : ℕ} → j < n → Wrote (f j) now at after next → Gathering f (below n) before from after next (j + 1)

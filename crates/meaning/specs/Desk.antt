@@ -1,5 +1,5 @@
 -- The desk program: from the bytes that it reads to the bytes that it writes.
-use Rattle.std.specs.Prelude.{ℕ, suc, ◌+◌, ◌/◌, ◌%◌, true, false, List, [], ◌∷◌, ◌++◌, map, length, get_or, ltb}
+use Rattle.std.specs.Prelude.{ℕ, suc, ◌/◌, ◌%◌, true, false, List, [], ◌∷◌, ◌++◌, map, length, get_or, ltb}
 use Rattle.meaning.specs.Lists.{gather}
 use Rattle.meaning.specs.Bounds.{longest_input, desk_work, desk_witness, desk_budget}
 use Rattle.meaning.specs.Table.{Table}

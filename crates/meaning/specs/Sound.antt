@@ -4,7 +4,7 @@ use Rattle.std.specs.Prelude.{◌≡◌, ◌⊎◌, ◌≤◌, ◌<◌, length, 
 use mathlib.Core.List.{List, Memᴰ}
 use Rattle.meaning.specs.Lists.{Rising}
 use Rattle.meaning.specs.Bounds.{most_tasks, most_vertices, most_edges, largest_e, largest_d, largest_p, largest_m}
-use Rattle.meaning.specs.Table.{Vertex, Edge, Task, Table, no_vertex, largest_eIn}
+use Rattle.meaning.specs.Table.{Vertex, Edge, Task, Table, no_vertex, largest_e_in}
 
 pub record SoundVertex (x : Vertex) : Type 0 where
   pub some_e : 1 ≤ x.e
@@ -30,7 +30,7 @@ pub record SoundTask (k : Task) : Type 0 where
   pub vertex_count : length k.vertices ≤ most_vertices
   pub edge_count : length k.edges ≤ most_edges
   pub most_m : k.m ≤ largest_m
-  pub covered : k.m ≤ largest_eIn k.vertices
+  pub covered : k.m ≤ largest_e_in k.vertices
   pub each_vertex : (x : Vertex) → Memᴰ x k.vertices → SoundVertex x
   pub each_edge : (x : Edge) → Memᴰ x k.edges → SoundEdge k.vertices x
   pub rising : Rising EdgeBefore k.edges

@@ -58,12 +58,12 @@ lower ts i = drop (suc i) ts
 -- ---- masked lengths
 
 -- "its task's largest e", of the vertices vs
-abbrev pub largest_eIn : List Vertex → ℕ
-largest_eIn vs = largest (map (λ (x : Vertex). x.e) vs)
+abbrev pub largest_e_in : List Vertex → ℕ
+largest_e_in vs = largest (map (λ (x : Vertex). x.e) vs)
 
 -- the largest m of tasks, "0 if none"
-abbrev pub largest_mIn : List Task → ℕ
-largest_mIn ks = largest (map (λ (k : Task). k.m) ks)
+abbrev pub largest_m_in : List Task → ℕ
+largest_m_in ks = largest (map (λ (k : Task). k.m) ks)
 
 -- the same task without a masked length
 abbrev pub unmasked : Task → Task

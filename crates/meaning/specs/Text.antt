@@ -3,7 +3,7 @@ use Rattle.std.specs.Prelude.{ℕ, zero, suc, ◌+◌, ◌-◌, ◌*◌, ◌/◌
 use Rattle.std.proofs.Math.Option.{Option, none, some}
 use Rattle.meaning.specs.Lists.{pick, gather}
 use Rattle.meaning.specs.Bounds.{most_tasks, most_vertices, most_edges, largest_e, largest_d, largest_p, largest_m}
-use Rattle.meaning.specs.Table.{Vertex, Edge, Task, Table, vertex, edge, task, no_vertex, no_task, largest_eIn}
+use Rattle.meaning.specs.Table.{Vertex, Edge, Task, Table, vertex, edge, task, no_vertex, no_task, largest_e_in}
 
 -- ---- lines
 
@@ -116,7 +116,7 @@ task_frame s nv ne least m =
 
 -- "m may not exceed its task's largest e: refusal 3 at the last vertex's line": as long as another is wanted behind it, it isn't the last
 abbrev pub mask_fits : Begun → List Vertex → Bool
-mask_fits s vs = ltb 1 s.want_v || leb s.m (largest_eIn vs)
+mask_fits s vs = ltb 1 s.want_v || leb s.m (largest_e_in vs)
 
 -- "A job longer than its own deadline is a typing slip. Refuse it [..]: number 13, at the vertex's line, when e exceeds d, after 3, before 4 and before wish
 -- 3's test of m."

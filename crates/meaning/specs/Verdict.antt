@@ -2,7 +2,7 @@
 use Rattle.std.specs.Prelude.{ℕ, ◌+◌, List, [], ◌∷◌, ◌++◌, map, length, get_or, ltb, eqb}
 use Rattle.std.proofs.Math.Option.{Option, none, some}
 use Rattle.meaning.specs.Lists.{pick, gather, or_given}
-use Rattle.meaning.specs.Table.{Task, Table, vertex_at, task_at, higher, lower, largest_mIn, unmasked}
+use Rattle.meaning.specs.Table.{Task, Table, vertex_at, task_at, higher, lower, largest_m_in, unmasked}
 use Rattle.meaning.specs.Paths.{Path, load, paths_of}
 use Rattle.meaning.specs.Groups.{count, witness, late_count, worst, worst_choice}
 
@@ -87,7 +87,7 @@ walked a b ks e d = let c = count_of a e d (top_of ks d) in pick (ltb b c) (unfi
 -- "the largest m among lower tasks, 0 if none". "It is our house rule: a task's own masked end pushing its next job (source document 001, section 7) isn't
 -- covered."
 abbrev pub B : Table → ℕ → ℕ
-B ts i = largest_mIn (lower ts i)
+B ts i = largest_m_in (lower ts i)
 
 -- "a vertex's e in the overload rule becomes e + B"
 abbrev pub own_e : Table → ℕ → ℕ → ℕ

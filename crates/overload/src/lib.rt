@@ -3,6 +3,8 @@
 //
 // A group's loads stand in the work area, a row of d cells for each higher task: the cell of tick t is t - 1 places behind the row's start (`base`). That
 // they never fall along a row is asked of whoever lends them (`LightRows`).
+#![tactic(auto)]
+
 ghost use Rattle.std.specs.Prelude.{◌≡◌, ◌-◌, ◌*◌, ◌≤◌, take};
 ghost use Rattle.meaning.specs.Bounds.{most_higher};
 ghost use Rattle.overload.specs.Rows.{light, loads_at, rows_finish, LightRows};

@@ -3,6 +3,8 @@
 // "Its load at t, for t at least 1, is the largest total e over its prefixes with span strictly below t."
 //
 // How many complete paths a task has for a horizon, the one at a place of the order, and the loads of them all.
+#![tactic(auto)]
+
 ghost use Rattle.std.specs.Prelude.{◌≡◌, ◌≤◌, ◌<◌, min, List, map, length, get_or};
 ghost use Rattle.meaning.specs.Bounds.{largest_d};
 ghost use Rattle.meaning.specs.Paths.{paths_of};

@@ -1,6 +1,8 @@
 // "The table text is lines of hexadecimal, one frame a line: an even number of digits 0-9a-f, at least two, then a line feed."
 //
 // A frame as a line in a lent area: each function writes from a place on and gives the place behind it. The frames of a table stand in parts.rt.
+#![tactic(auto)]
+
 pub mod parts;
 
 ghost use Rattle.std.specs.Prelude.{◌≡◌, ◌+◌, ◌*◌, ◌≤◌, length};

@@ -13,12 +13,12 @@ length_larger [] ys = refl
 length_larger (x ∷ xs) [] = refl
 length_larger (x ∷ xs) (y ∷ ys) = ap suc (length_larger xs ys)
 
-get_d_larger : (xs ys : List ℕ) (t : ℕ) → length xs ≡ length ys → get_or (larger_cells xs ys) t 0 ≡ max (get_or xs t 0) (get_or ys t 0)
-get_d_larger [] [] t h = omega arith
-get_d_larger [] (y ∷ ys) t h = absurd (omega arith)
-get_d_larger (x ∷ xs) [] t h = absurd (omega arith)
-get_d_larger (x ∷ xs) (y ∷ ys) zero h = refl
-get_d_larger (x ∷ xs) (y ∷ ys) (suc t) h = get_d_larger xs ys t (omega arith)
+get_or_larger : (xs ys : List ℕ) (t : ℕ) → length xs ≡ length ys → get_or (larger_cells xs ys) t 0 ≡ max (get_or xs t 0) (get_or ys t 0)
+get_or_larger [] [] t h = omega arith
+get_or_larger [] (y ∷ ys) t h = absurd (omega arith)
+get_or_larger (x ∷ xs) [] t h = absurd (omega arith)
+get_or_larger (x ∷ xs) (y ∷ ys) zero h = refl
+get_or_larger (x ∷ xs) (y ∷ ys) (suc t) h = get_or_larger xs ys t (omega arith)
 
 larger_swap : (xs ys zs : List ℕ) → larger_cells (larger_cells xs ys) zs ≡ larger_cells (larger_cells xs zs) ys
 larger_swap [] ys zs = refl
@@ -70,5 +70,5 @@ module _ (P : List ℕ) (o a b d : ℕ) (ha : a + d ≤ o) (hb : o + d ≤ b) (h
       let rb : get_or m (b + t) 0 ≡ get_or (take d (drop b P)) t 0 =
       ap (λ (w : List ℕ). get_or w (b + t) 0) e ∙ sets_after (take t (pair_larger P a b d)) P o (b + t) (omega arith)
       ∙ sym (get_or-take d (drop b P) t 0 h ∙ get_or-drop b P t 0) in
-      let q : z ≡ get_or (pair_larger P a b d) t 0 = ez ∙ ap₂ max ra rb ∙ sym (get_d_larger (take d (drop a P)) (take d (drop b P)) t (len_a ∙ sym len_b)) in
+      let q : z ≡ get_or (pair_larger P a b d) t 0 = ez ∙ ap₂ max ra rb ∙ sym (get_or_larger (take d (drop a P)) (take d (drop b P)) t (len_a ∙ sym len_b)) in
       ap (λ (w : ℕ). set m (o + t) w) q ∙ copy_more P m (pair_larger P a b d) o t (omega (arith, pair_length)) e

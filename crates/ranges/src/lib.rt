@@ -3,6 +3,8 @@
 //
 // A stretch has a row of d cells for each range of its task's paths, in order: the rows of the first part, then the range's own, then the second part's.
 // So the path of place i has row 2i, and the range of len paths from place first on has row 2 first + top_row(len).
+#![tactic(auto)]
+
 ghost use Rattle.std.specs.Prelude.{◌≡◌, ◌+◌, ◌≤◌, ◌<◌, max, length, take, drop};
 ghost use Rattle.std.proofs.lemmas.List.Edits.{sets};
 ghost use Rattle.meaning.specs.Bounds.{largest_d};

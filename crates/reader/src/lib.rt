@@ -3,6 +3,8 @@
 //
 // The reader goes down by task: a line is tested for just the frame that must stand there, and looked through for its refusal only where
 // that fails. Each line that is taken has as many bytes as its frame, so that places in the text and line numbers are sums.
+#![tactic(auto)]
+
 ghost use Rattle.std.specs.Prelude.{◌≡◌, ◌≤◌, ◌<◌};
 ghost use Rattle.meaning.specs.Text.{read, packed};
 ghost use Rattle.meaning.specs.Texts.{last_line};
@@ -97,8 +99,7 @@ pub fn read(text: &[u8]) -> Reading
 
 // "The customer desk's C host calls the text check directly, with the bytes and a length, and gets refusal number and line, both 0 for a
 // readable text": number x 65,536 + line.
-#[unsafe(no_mangle)]
-pub extern "C" fn text_check(text: &[u8]) -> u32
+pub fn text_check(text: &[u8]) -> u32
     ensures { result ≡ packed (read text.now) }
 {
     let r = read(text);

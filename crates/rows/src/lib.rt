@@ -5,6 +5,8 @@
 // A rest is a range that begins where a first part ends: at each place but the first one, exactly one rest begins. A task's stretch of the work area has
 // a row for each range of its paths, in order: the rows of the first part, then the range's own, then those of the rest. So the path of place i has
 // row 2i, and the range of len paths from place first on has row 2 first + top_row(len).
+#![tactic(auto)]
+
 ghost use Rattle.std.specs.Prelude.{◌≡◌, ◌+◌, ◌≤◌, ◌<◌};
 ghost use Rattle.meaning.specs.Bounds.{most_paths};
 ghost use Rattle.meaning.specs.Groups as Meant;

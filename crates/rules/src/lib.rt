@@ -3,6 +3,8 @@
 // its own deadline is a typing slip".
 //
 // On numbers alone, so that whoever takes a frame, from a text or from a table, asks the same questions.
+#![tactic(auto)]
+
 ghost use Rattle.std.specs.Prelude.{◌≡◌};
 ghost use Rattle.rules.specs.Rules.{task_in, vertex_in, separation_in, edge_in, link_in};
 ghost use Rattle.rules.specs.Rules.{job_in_time, mask_covered, edge_spaced, edge_place, least_after, edge_after};

@@ -17,7 +17,7 @@ use Rattle.meaning.specs.Groups.{witness, worst_choice}
 use Rattle.meaning.specs.Walk.{full, Bar, bar_at, End, met, end_by, worst_bar, Sees}
 use Rattle.meaning.specs.Verdict.{Verdict, meets, misses, unfinished, refused, shown_paths, Listed, load_of, listed, top_of, paths_in, decided}
 use Rattle.meaning.specs.Verdict.{Asked, plain, latest, count_of, walked}
-use Rattle.meaning.proofs.Lists.{get_d_mapped}
+use Rattle.meaning.proofs.Lists.{get_or_mapped}
 use Rattle.meaning.proofs.Choices.{top_full}
 use Rattle.meaning.proofs.Walks.{end_met, end_missed, walk_sees, late_walk_sees, worst_some, worst_late}
 use Rattle.ways.specs.Ways.{most_counted}
@@ -93,7 +93,7 @@ chosen_paths (k ∷ ks) d (p ∷ ps) l h =
     let put : Path → Listed = λ w. record { task = Meant.unmasked k; path = w } in
     ap (λ (c : List Listed). paths_in (c ++ chosen (top_of ks d) ps)) (take-one (put []) p (listed d k) there)
     ∙ ap₂ {C = List Path} (λ (w : Path) (ws : List Path). w ∷ ws)
-    (ap (λ (x : Listed). x.path) (get_d_mapped put (put []) [] (paths_of k d) p (omega (arith, length-map (paths_of k d) put))))
+    (ap (λ (x : Listed). x.path) (get_or_mapped put (put []) [] (paths_of k d) p (omega (arith, length-map (paths_of k d) put))))
     (chosen_paths ks d ps (omega arith) (λ j m. h (suc j) (omega arith)))
 
 -- ---- the walk over the stretches of ks

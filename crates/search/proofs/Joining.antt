@@ -13,7 +13,7 @@ use Rattle.meaning.specs.Table.{no_task}
 use Rattle.meaning.specs.Paths.{paths_of}
 use Rattle.meaning.specs.Groups.{range_load}
 use Rattle.meaning.specs.Verdict.{Listed, load_of, listed, top_of}
-use Rattle.meaning.proofs.Lists.{get_d_mapped}
+use Rattle.meaning.proofs.Lists.{get_or_mapped}
 use Rattle.meaning.proofs.PathsOf.{paths_some}
 use Rattle.rows.specs.Order.{Node, top_row}
 use Rattle.rows.proofs.Order.{node_in, node_pos, top_in}
@@ -32,16 +32,16 @@ use Rattle.areas.proofs.Counting.{above_counts, above_roots}
 use Rattle.areas.proofs.Filling.{Few, task_sound, counts_length, need_is, at}
 
 -- a cell of the j-th of lists that stand one after the other
-get_d_gather : (f : Meant.Task → List ℕ) (xs : List Meant.Task) (j i : ℕ) → j < length xs → i < length (f (get_or xs j no_task))
+get_or-gather : (f : Meant.Task → List ℕ) (xs : List Meant.Task) (j i : ℕ) → j < length xs → i < length (f (get_or xs j no_task))
     → get_or (gather f xs) (length (gather f (take j xs)) + i) 0 ≡ get_or (f (get_or xs j no_task)) i 0
-get_d_gather f [] j i h l = absurd (omega arith)
-get_d_gather f (x ∷ xs) zero i h l = let e : 0 + i ≡ i = omega arith in
+get_or-gather f [] j i h l = absurd (omega arith)
+get_or-gather f (x ∷ xs) zero i h l = let e : 0 + i ≡ i = omega arith in
     ap (λ (n : ℕ). get_or (f x ++ gather f xs) n 0) e ∙ get_or-append (f x) (gather f xs) 0 i l
-get_d_gather f (x ∷ xs) (suc j) i h l =
+get_or-gather f (x ∷ xs) (suc j) i h l =
     let e : length (f x ++ gather f (take j xs)) + i ≡ length (f x) + (length (gather f (take j xs)) + i) = rw length-append (omega arith) in
     ap (λ (n : ℕ). get_or (f x ++ gather f xs) n 0) e
     ∙ get_or-append-add (f x) (gather f xs) (length (gather f (take j xs)) + i) 0
-    ∙ get_d_gather f xs j i (omega arith) l
+    ∙ get_or-gather f xs j i (omega arith) l
 
 module _ (ks : List Meant.Task) (d : ℕ) (few : Few ks d) where
   abbrev a : Above
@@ -63,7 +63,7 @@ module _ (ks : List Meant.Task) (d : ℕ) (few : Few ks d) where
   group_many = length-map ks (listed d)
 
   group_at : (j : ℕ) → j < length ks → get_or Gs j [] ≡ listed d (task j)
-  group_at j m = get_d_mapped (listed d) [] no_task ks j m
+  group_at j m = get_or_mapped (listed d) [] no_task ks j m
 
   pub group_length : (j : ℕ) → j < length ks → length (get_or Gs j []) ≡ get_or a.counts j 0
   group_length j m = ap length (group_at j m) ∙ length-map (paths_of (task j) d) _ ∙ sym (at ks d few j m).paths
@@ -83,7 +83,7 @@ module _ (ks : List Meant.Task) (d : ℕ) (few : Few ks d) where
       stretch_length (task j) d (some_path_lem j q) ∙ ap (stretch_cells d) (sym p.paths) in
       let fits : row * d + u < length (stretch_of (task j) d) = omega (arith, long, mul-le-mul_right d one, suc-mul row d) in
       let place : get_or a.roots j 0 + row * d + u ≡ length (stretches (take j ks) d) + (row * d + u) = omega (arith, p.from) in
-      ap (λ (n : ℕ). get_or work n 0) place ∙ get_d_gather (λ (y : Meant.Task). stretch_of y d) ks j (row * d + u) q fits
+      ap (λ (n : ℕ). get_or work n 0) place ∙ get_or-gather (λ (y : Meant.Task). stretch_of y d) ks j (row * d + u) q fits
 
   pub rows_hold : RowsHold load_of d work a.roots Gs
   rows_hold j q f m x u v =
@@ -103,7 +103,7 @@ module _ (ks : List Meant.Task) (d : ℕ) (few : Few ks d) where
       ext_get_or 0 (take (length ks) a.counts) (sizes Gs) (long ∙ sym (length-map Gs length ∙ group_many))
       (λ j m.
       let b : j < length ks = omega arith in
-      get_or-take (length ks) a.counts j 0 b ∙ sym (get_d_mapped length 0 [] Gs j (omega (arith, group_many)) ∙ group_length j b))
+      get_or-take (length ks) a.counts j 0 b ∙ sym (get_or_mapped length 0 [] Gs j (omega (arith, group_many)) ∙ group_length j b))
 
   pub walkable : (e : ℕ) → e ≤ light → Walkable (length ks) d e a.roots a.counts work
   walkable e o =

@@ -3,6 +3,8 @@
 //
 // The walk over the stretches of the higher tasks, once they are filled; it leaves their cells zero. `proofs/` shows that what it says is document 01's
 // C and witness, and with the bar at 0 the worst finish, whatever the tasks: no table is known here.
+#![tactic(auto)]
+
 ghost use Rattle.std.specs.Prelude.{◌≡◌, ◌*◌, ◌≤◌, length, take};
 ghost use Rattle.meaning.specs.Bounds.{most_higher, most_paths, largest_d};
 ghost use Rattle.meaning.specs.Areas.{rows_for, zeroed};

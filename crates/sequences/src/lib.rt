@@ -1,5 +1,7 @@
 // What a program reads that runs on many cases: a sequence of cases, each a header and then its text. A header has 19 bytes, high bytes first: the mode,
 // which says what is asked (1 byte), the text's length (4), task (1), vertex (1), budget (4), work cells (4), witness cells (4).
+#![tactic(auto)]
+
 ghost use Rattle.std.specs.Prelude.{◌≡◌, ◌+◌, ◌≤◌, length};
 ghost use Rattle.sequences.specs.Sequence.{header_bytes, room_bytes, number_at, case_end, zeros};
 

@@ -2,6 +2,8 @@
 // "Verdicts: meets with C, misses with C and the cells written, unfinished with the budget."
 //
 // The refusal sheet's rows 8 to 12 from numbers alone, and the answer from a walk's ending: no table is known here.
+#![tactic(auto)]
+
 ghost use Rattle.std.specs.Prelude.{◌≡◌, ◌+◌, ◌*◌, ◌≤◌, leb, ltb};
 ghost use Rattle.meaning.specs.Bounds.{most_higher, most_paths, largest_d, longest_input};
 ghost use Rattle.meaning.specs.Areas.{rows_for};

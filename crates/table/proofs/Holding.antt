@@ -78,14 +78,14 @@ module _ (t : Table) where
 -- ---- the largest e: beyond the array stand zeros
 
 abbrev largest_at : List Vertex → ℕ → ℕ → ℕ
-largest_at xs k n = Meant.largest_eIn (map (held_vertex xs) (count_from k n))
+largest_at xs k n = Meant.largest_e_in (map (held_vertex xs) (count_from k n))
 
 beyond : (k n : ℕ) → largest_at [] k n ≡ 0
 beyond k zero = refl
 beyond k (suc n) = omega (arith, beyond (suc k) n)
 
-pub vertices-largest : (xs : List Vertex) (n : ℕ) → largest_of n xs ≡ Meant.largest_eIn (vertices_held xs n)
+pub vertices-largest : (xs : List Vertex) (n : ℕ) → largest_of n xs ≡ Meant.largest_e_in (vertices_held xs n)
 unfolding largest_of vertices_held
 vertices-largest xs zero = refl
 vertices-largest [] (suc n) = omega (arith, beyond 0 (suc n))
-vertices-largest (x ∷ xs) (suc n) = ap (max x.e.0) (vertices-largest xs n ∙ sym (ap Meant.largest_eIn (cells_shift vertex_of no_vertex x xs 0 n)))
+vertices-largest (x ∷ xs) (suc n) = ap (max x.e.0) (vertices-largest xs n ∙ sym (ap Meant.largest_e_in (cells_shift vertex_of no_vertex x xs 0 n)))

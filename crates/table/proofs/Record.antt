@@ -19,9 +19,9 @@ pub take-padded : {X : Type 0} (n : ℕ) (z : X) (xs : List X) → take (length 
 unfolding padded
 take-padded n z xs = take_at xs (replicate (n - length xs) z) (length xs) refl
 
-pub get_d_padded : {X : Type 0} (n : ℕ) (z w : X) (xs : List X) (i : ℕ) → i < length xs → get_or (padded n z xs) i w ≡ get_or xs i w
+pub get_or-padded : {X : Type 0} (n : ℕ) (z w : X) (xs : List X) (i : ℕ) → i < length xs → get_or (padded n z xs) i w ≡ get_or xs i w
 unfolding padded
-get_d_padded n z w xs i h = get_or-append xs (replicate (n - length xs) z) w i h
+get_or-padded n z w xs i h = get_or-append xs (replicate (n - length xs) z) w i h
 
 pub length-padded : {X : Type 0} (n : ℕ) (z : X) (xs : List X) → length xs ≤ n → length (padded n z xs) ≡ n
 unfolding padded

@@ -9,14 +9,14 @@ use Rattle.meaning.specs.Table as Meant
 use Rattle.meaning.specs.Table.{no_vertex, task_at, vertex_at}
 use Rattle.meaning.specs.Verdict.{deadline}
 use Rattle.meaning.specs.Sound.{SoundVertex}
-use Rattle.meaning.proofs.Lists.{mem_get_d, get_d_mapped}
+use Rattle.meaning.proofs.Lists.{mem_get_or, get_or_mapped}
 use Rattle.table.specs.declared.Vertex.{Vertex}
 use Rattle.table.specs.declared.Task.{Task}
 use Rattle.table.specs.declared.Table.{Table}
 use Rattle.table.specs.Record.{vertex_record, blank_task}
 use Rattle.table.specs.Inner.{table_of, Held}
 use Rattle.table.specs.Record as Blank
-use Rattle.table.proofs.Record.{get_d_padded, length-padded}
+use Rattle.table.proofs.Record.{get_or-padded, length-padded}
 use Rattle.table.proofs.Records.{held-task, held_sound}
 
 abbrev pub own_task : Table → ℕ → Task
@@ -44,12 +44,12 @@ module _ (t : Table) (k : Held t) (i : ℕ) (l : i < t.n) where
     pub job_is : own_vertex t i v ≡ vertex_record (vertex_at (task_at ts i) v)
     job_is =
         ap (λ (x : Task). get_or x.vertices v Blank.no_vertex) (held-task t k blank_task i l)
-        ∙ get_d_padded most_vertices Blank.no_vertex Blank.no_vertex (map vertex_record (task_at ts i).vertices) v
+        ∙ get_or-padded most_vertices Blank.no_vertex Blank.no_vertex (map vertex_record (task_at ts i).vertices) v
         (omega (arith, length-map (task_at ts i).vertices vertex_record, own_size))
-        ∙ get_d_mapped vertex_record Blank.no_vertex no_vertex (task_at ts i).vertices v (omega (arith, own_size))
+        ∙ get_or_mapped vertex_record Blank.no_vertex no_vertex (task_at ts i).vertices v (omega (arith, own_size))
 
     pub job_sound : SoundVertex (vertex_at (task_at ts i) v)
-    job_sound = (held_sound t k i l).each_vertex (vertex_at (task_at ts i) v) (mem_get_d no_vertex (task_at ts i).vertices v (omega (arith, own_size)))
+    job_sound = (held_sound t k i l).each_vertex (vertex_at (task_at ts i) v) (mem_get_or no_vertex (task_at ts i).vertices v (omega (arith, own_size)))
 
     pub job_d : (own_vertex t i v).d.0 ≡ deadline ts i v
     job_d = ap (λ (x : Vertex). x.d.0) job_is

@@ -41,7 +41,7 @@ task_of k = Meant.task k.m.0 (map vertex_of (take k.nv k.vertices)) (map edge_of
 
 -- the largest e of the first n
 unfoldable pub largest_of : ℕ → List Vertex → ℕ
-largest_of n vs = Meant.largest_eIn (map vertex_of (take n vs))
+largest_of n vs = Meant.largest_e_in (map vertex_of (take n vs))
 
 abbrev pub table_of : Table → Meant.Table
 table_of t = map task_of (take t.n t.tasks)

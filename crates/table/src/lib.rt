@@ -1,5 +1,7 @@
 // What the tool judges, by value: "A table holds tasks in priority order; task 0 is highest."
 // A list is an array with its length beside it; the places behind the length hold zeros.
+#![tactic(auto)]
+
 ghost use Rattle.std.specs.Prelude.{◌≡◌, ◌≤◌};
 ghost use Rattle.meaning.specs.Bounds.{most_vertices};
 ghost use Rattle.table.specs.Record.{task_cells, no_vertex, no_edge, no_task};

@@ -1,5 +1,7 @@
 // The desk program's verdicts, in words for people: a line for each vertex, after a miss the releases that show it, then the counts and whether the
 // table may go out. Where it is asked for, after a meets the releases that make it so late.
+#![tactic(auto)]
+
 mod ending;
 mod line;
 mod masks;

@@ -9,6 +9,8 @@
 //
 // A group is gone into only if it finishes later than the bar. With the bar at d from the start those are the groups that overload. With the bar at 0,
 // raised to each single choice that finishes later, "a group is passed over when its own finish is no later than that of some single choice before it".
+#![tactic(auto)]
+
 ghost use Rattle.std.specs.Prelude.{◌≡◌, take};
 ghost use Rattle.groups.specs.Lent.{arrays, Standing};
 ghost use Rattle.walk.specs.Lent.{Walkable, MovedOn, Unused, StepsOver};

@@ -11,7 +11,7 @@ use lib.ListN.{length, get_or}
 use lib.Dec.{ltb}
 use Rattle.meaning.specs.Lists.{pick, gather}
 use Rattle.meaning.specs.Bounds.{most_vertices}
-use Rattle.meaning.proofs.Lists.{mem_get_d, gather_mem, count_from_mem}
+use Rattle.meaning.proofs.Lists.{mem_get_or, gather_mem, count_from_mem}
 use Rattle.columns.specs.Columns.{SoundColumns, edges_of}
 use Rattle.ways.specs.Ways.{or_stop, on_by, onward, ways_from, ways}
 use Rattle.ways.proofs.Ways.{edge-below}
@@ -62,4 +62,4 @@ pub way_short : (start to p : List ℕ) → SoundColumns start to p → (v r i :
 unfolding ways
 way_short start to p s v r i hv hr h =
     let w = get_or (ways start to p v r) i [] in
-    taken_short start to p s r v w hv hr (way_taken start to p r r v w (mem_get_d [] (ways_from start to p r r v) i h))
+    taken_short start to p s r v w hv hr (way_taken start to p r r v w (mem_get_or [] (ways_from start to p r r v) i h))

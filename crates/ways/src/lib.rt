@@ -3,3 +3,4 @@
 //
 // The complete paths over a task's columns, as ways along its edges, and their loads by runs: specs/ says them so, proofs/ shows that they are document
 // 01's. There is no code here.
+#![tactic(auto)]

@@ -1,4 +1,6 @@
 // As `words`, and below each meets the releases that make it so late.
+#![tactic(auto)]
+
 use bounds::LONGEST_INPUT;
 use telling::say_table;
 

@@ -1,4 +1,6 @@
 // Each verdict of the table that stands on standard input, in words for people.
+#![tactic(auto)]
+
 use bounds::LONGEST_INPUT;
 use telling::say_table;
 

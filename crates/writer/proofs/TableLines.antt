@@ -12,7 +12,7 @@ use Rattle.meaning.specs.Texts.{end_line, task_length, text_length}
 use Rattle.meaning.specs.Writing.{frame_of_end, frames_of_task, text_of}
 use Rattle.meaning.specs.Sound.{SoundTask, SoundTable}
 use Rattle.meaning.specs.Areas.{Wrote}
-use Rattle.meaning.proofs.Lists.{mem_get_d, gather_append, gather-map, gather-gather}
+use Rattle.meaning.proofs.Lists.{mem_get_or, gather_append, gather-map, gather-gather}
 use Rattle.meaning.proofs.TextSize.{task-size, tasks_size}
 use Rattle.meaning.proofs.Wrote.{wrote_then, Gathering, counting_room, counting_all}
 use Rattle.table.specs.declared.Task.{Task}
@@ -46,7 +46,7 @@ module _ (t : Table) where
     few_tasks = omega (arith, s.task_count, tasks_length_lem t)
 
     sound_cell : SoundTask (task_held k)
-    sound_cell = subst SoundTask (tasks_at t i h) (s.each_task (get_or ts i Meant.no_task) (mem_get_d Meant.no_task ts i (omega (arith, tasks_length_lem t))))
+    sound_cell = subst SoundTask (tasks_at t i h) (s.each_task (get_or ts i Meant.no_task) (mem_get_or Meant.no_task ts i (omega (arith, tasks_length_lem t))))
 
     pub few_parts : (k.nv ≤ most_vertices) × (k.ne ≤ most_edges)
     few_parts = (omega (arith, sound_cell.vertex_count, task-vertices k), omega (arith, sound_cell.edge_count, task_edges_lem k))

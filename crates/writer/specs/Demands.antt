@@ -113,7 +113,7 @@ module _ (t : Table) (before : List ℕ) (r : Written) (after : List ℕ) where
     pub slip_only : (n : ℕ) → Gets 13 n → (f : List ℕ) × (frame_in some (frames_of ts) (n - 1) ≡ some f) × Slip f
     -- m above the largest e is 3 at the last vertex's line, after its own checks
     pub mask : (i : ℕ) → Reached i → Allowed i → let k = Meant.task_at ts i in ((x : Meant.Vertex) → Memᴰ x k.vertices → SoundVertex x)
-        → Meant.largest_eIn k.vertices < k.m → Gets 3 (line_of i + length k.vertices)
+        → Meant.largest_e_in k.vertices < k.m → Gets 3 (line_of i + length k.vertices)
     -- "A refusal changes nothing; else the rest of the area is unchanged."
     pub unchanged : (at : RefusedAt) → r ≡ Refused at → after ≡ before
     pub rest : (n : ℕ) → r ≡ Bytes n → (length after ≡ length before) × (drop n after ≡ drop n before)

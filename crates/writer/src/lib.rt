@@ -1,6 +1,8 @@
 // "The configurator builds tables in memory and needs them as text. A writer takes a table and a byte area and writes the frames. A table that breaks a
 // rule gets 2 to 5 with the line its frame would have, first line first [..]; then 10 with the bytes needed. A refusal changes nothing; else the rest of
 // the area is unchanged." A job longer than its own deadline gets 13, by wish 6.
+#![tactic(auto)]
+
 mod text;
 
 ghost use Rattle.writer.specs.Written.{Writes};

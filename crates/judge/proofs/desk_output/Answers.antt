@@ -25,8 +25,7 @@ returns-in_default c =
 
 pub returns : goal.returns
 returns c =
-    let told = c.status-1.given in
     let s = c.args in
     let fits = ltb-false _ _ (sym c.input_too_long.ensures ∙ c.if-input_too_long.false) in
-    let line = line_refused s.text.now c.read-reading.result c.read-reading.ensures told.1 in
-    writes_refused s.text.now fits told.0.0 line c.refusal_output-2.ensures
+    let line = line_refused s.text.now c.read-reading.result c.read-reading.ensures c.in-Refused.is in
+    writes_refused s.text.now fits c.in-Refused.at line c.refusal_output-2.ensures

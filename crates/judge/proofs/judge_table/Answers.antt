@@ -14,6 +14,5 @@ returns-in_default c =
 
 pub returns : goal.returns
 returns c =
-    let told = c.status-1.given in
     let s = c.args in
-    text_uncounted s.text.now s.budget s.work.now told.0.0 (line_refused s.text.now c.read-reading.result c.read-reading.ensures told.1)
+    text_uncounted s.text.now s.budget s.work.now c.in-Refused.at (line_refused s.text.now c.read-reading.result c.read-reading.ensures c.in-Refused.is)

@@ -37,17 +37,17 @@ closed : (c : Joined-next) →
 closed c =
     let table = c.loop-head.table in
     let here : FrameTurn c.args.text.now table c.loop-head.at c.loop-head.line c.task_or_end_line-next.result =
-      record { turn = c.loop-head.invariant; gives = c.task_or_end_line-next.ensures } in
+    record { turn = c.loop-head.invariant; gives = c.task_or_end_line-next.ensures } in
     elim c.match-next.branch [
-      in_default w ↦ ap (λ (x : Status). reading_with x table) (w.status-is ∙ w.ended-status.ensures) ∙ frame_ends here w.in_default.not-TaskTaken
-    | in-TaskTaken+in-StoppedBy w ↦
-        let taken : TaskTurn c.args.text.now table c.loop-head.at c.loop-head.line w.in-TaskTaken.head (c.loop-head.at + w.head_bytes.result) w.read_task-taken.result =
+      | in_default w ↦ ap (λ (x : Status). reading_with x table) (w.status-is ∙ w.ended-status.ensures) ∙ frame_ends here w.in_default.not-TaskTaken
+      | in-TaskTaken+in-StoppedBy w ↦
+          let taken : TaskTurn c.args.text.now table c.loop-head.at c.loop-head.line w.in-TaskTaken.head (c.loop-head.at + w.head_bytes.result) w.read_task-taken.result =
           record {
             frame = record { turn = c.loop-head.invariant; gives = sym w.in-TaskTaken.is ∙ c.task_or_end_line-next.ensures };
             place = ap (λ n. c.loop-head.at + n) w.head_bytes.ensures;
             gives = w.read_task-taken.ensures;
           } in
-        ap (λ (x : Status). reading_with x table) (w.status-is ∙ w.refused-status.ensures) ∙ task_stops taken w.in-StoppedBy.is (omega arith)
+          ap (λ (x : Status). reading_with x table) (w.status-is ∙ w.refused-status.ensures) ∙ task_stops taken w.in-StoppedBy.is (omega arith)
     ]
 
 pub loop-head-init : goal.loop-head-init

@@ -31,7 +31,7 @@ pub loop-place-preserved : goal.loop-place-preserved
 loop-place-preserved c =
     let here = c.loop-place.invariant in
     desking_more here c.loop-place-test.true c.judge_vertex-told.ensures c.verdict_in-verdict.ensures c.vertex_lines-at.ensures
-    c.judge_vertex-told.auto.1.1.1.1.1.0 c.judge_vertex-told.auto.1.1.1.1.1.1.0
+    c.judge_vertex-told.auto.work c.judge_vertex-told.auto.witness
     c.counted-counts.ensures (so_far_after here.so_far c.loop-place-test.true c.next_place-place.ensures)
 
 pub counts_line-requires : goal.counts_line-requires

@@ -28,7 +28,7 @@ pub loop-at-preserved : goal.loop-at-preserved
 loop-at-preserved c =
     let here = c.loop-at.invariant in
     judged_more here c.loop-at-test.true c.judge_vertex-told.ensures c.verdict_in-verdict.ensures
-    c.judge_vertex-told.auto.1.1.1.1.1.0 c.judge_vertex-told.auto.1.1.1.1.1.1.0 c.counted-counts.ensures
+    c.judge_vertex-told.auto.work c.judge_vertex-told.auto.witness c.counted-counts.ensures
     (so_far_after here.so_far c.loop-at-test.true c.next_place-at.ensures)
 
 pub shape_of-work : goal.shape_of-work
