@@ -16,7 +16,7 @@ use Rattle.meaning.proofs.Demands.{readable_sound}
 use Rattle.kinds.specs.declared.Verdict as Code
 use Rattle.kinds.specs.declared.Lateness.{Lateness}
 use Rattle.judge.specs.Judged.{JudgedBy, LatestJudged}
-use Rattle.judge.proofs.Sheet.{no_task, no_vertex_lem}
+use Rattle.judge.proofs.Sheet.{no_task_lem, no_vertex_lem}
 
 -- whatever a call gives by its verdict and the two numbers, and of a refusal by no number
 module _ (asked : Asked) (i v b lw lx : ℕ) {X : Type 0} (F : Verdict → ℕ → ℕ → X) (blind : (k n j w : ℕ) → F (refused k n) j w ≡ F (refused k n) i v) where
@@ -40,8 +40,8 @@ module _ (asked : Asked) (i v b lw lx : ℕ) {X : Type 0} (F : Verdict → ℕ �
       elim (dec_lt i (length ts)) [
         | yes h ↦ let e : min i 255 ≡ i = omega (arith, s.task_count) in ap (λ (j : ℕ). At (readable ts) j (min v 255)) e ∙ of-task ts s h
         | no h ↦
-            both_refused (min i 255) (min v 255) (no_task asked ts (min i 255) (min v 255) b lw lx (omega (arith, s.task_count)))
-            (no_task asked ts i v b lw lx (omega arith))
+            both_refused (min i 255) (min v 255) (no_task_lem asked ts (min i 255) (min v 255) b lw lx (omega (arith, s.task_count)))
+            (no_task_lem asked ts i v b lw lx (omega arith))
       ]
 
   of_reading : (text : List ℕ) (m : Reading) → read text ≡ m → At m (min i 255) (min v 255) ≡ At m i v

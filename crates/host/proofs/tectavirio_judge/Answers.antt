@@ -1,0 +1,15 @@
+use Rattle.meaning.specs.Verdict.{plain}
+use Rattle.host.proofs.Wide.{wide_judged}
+use Rattle.host.proofs.tectavirio_judge.Goals as goal
+
+pub returns : goal.returns
+returns c =
+    let s = c.args in
+    record {
+      verdict = c.judge-verdict.result;
+      judged =
+          wide_judged plain s.text.now s.task s.vertex s.budget c.narrow.ensures c.narrow-2.ensures c.judge-verdict.ensures;
+      number_is = c.verdict_number.ensures;
+      value_is = c.verdict_value.ensures;
+      place_is = c.verdict_place.ensures;
+    }
