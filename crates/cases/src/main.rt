@@ -12,11 +12,11 @@
 // Any other mode is a line that says so.
 #![tactic(auto)]
 
-mod areas;
 mod back;
 mod check;
 mod desk;
 mod finishes;
+mod lent;
 mod list;
 mod numbers;
 mod print;
@@ -109,8 +109,8 @@ fn answer_all(bytes: &[u8], work: &mut [u32], witness: &mut [u16], out: &mut [u8
 
 fn main() {
     let mut bytes = sequences::room();
-    let mut work = areas::work_room();
-    let mut witness = areas::witness_room();
+    let mut work = lent::work_room();
+    let mut witness = lent::witness_room();
     let mut out = judge::output_room();
     let n = io::read_full(0, &mut bytes);
     answer_all(&bytes[..n], &mut work, &mut witness, &mut out);

@@ -1,9 +1,9 @@
 // One vertex, judged on areas of the header's cells: a line with the verdict's number (1 byte), its count, budget or refusal number (4), its cells or place
-// (4), then what is in the two areas, as areas.rt has it. In mode f the worst finish (4) stands before the areas, and a meets has its cells too.
+// (4), then what is in the two areas, as lent.rt has it. In mode f the worst finish (4) stands before the areas, and a meets has its cells too.
 ghost use Rattle.std.specs.Prelude.{◌≡◌, length};
 ghost use Rattle.sequences.specs.Sequence.{header_bytes};
 
-use crate::areas::{least, mark_witness, mark_work, print_witness, print_work};
+use crate::lent::{least, mark_witness, mark_work, print_witness, print_work};
 use crate::print::end_line;
 use judge::{judge, latest};
 use kinds::{Lateness, TaskNumber, Verdict, VertexNumber};

@@ -2,7 +2,7 @@
 ghost use Rattle.std.specs.Prelude.{◌≡◌, ◌≤◌, length};
 ghost use Rattle.sequences.specs.Sequence.{header_bytes};
 
-use crate::areas::{least, mark_work, print_work};
+use crate::lent::{least, mark_work, print_work};
 use crate::print::end_line;
 use bounds::{COUNTS_LINE, DESK_BUDGET, REFUSAL_LINE};
 use counts::Counts;
@@ -61,7 +61,7 @@ fn judge_in(header: &[u8], text: &[u8], work: &mut [u32])
     end_line();
 }
 
-// With the header's budget and work cells, or all that there are; the line goes on with what is in the area, as areas.rt has it.
+// With the header's budget and work cells, or all that there are; the line goes on with what is in the area, as lent.rt has it.
 pub(crate) fn print_marked(header: &[u8], text: &[u8], work: &mut [u32])
     requires { length header.now ≡ header_bytes }
 {

@@ -4,7 +4,7 @@
 ghost use Rattle.std.specs.Prelude.{◌≡◌, ◌≤◌, length};
 ghost use Rattle.sequences.specs.Sequence.{header_bytes};
 
-use crate::areas::least;
+use crate::lent::least;
 use crate::print::end_line;
 use kinds::refusal_number;
 use sequences::number_at;
