@@ -15,7 +15,6 @@ use Rattle.meaning.specs.Bounds.{most_vertices, most_edges}
 use Rattle.meaning.specs.Table as Meant
 use Rattle.meaning.specs.Paths.{out_of, execution}
 use Rattle.meaning.proofs.Lists.{count_from_mem}
-use Rattle.table.specs.declared.Vertex.{Vertex}
 use Rattle.table.specs.declared.Edge.{Edge}
 use Rattle.table.specs.declared.Task.{Task}
 use Rattle.table.specs.Record.{no_vertex, no_edge, vertex_of, edge_of}

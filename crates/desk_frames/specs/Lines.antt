@@ -1,5 +1,5 @@
 -- The paths that cells hold, and the lines of a vertex: what the functions here promise the judge. No promise of a call rests on it.
-use Rattle.std.specs.Prelude.{ℕ, zero, suc, ◌+◌, ◌≤◌, ◌<◌, List, [], ◌∷◌, ◌++◌, length, take, drop, get_or}
+use Rattle.std.specs.Prelude.{ℕ, zero, suc, ◌≤◌, ◌<◌, List, [], ◌∷◌, ◌++◌, length, take, drop, get_or}
 use Rattle.meaning.specs.Paths.{Path}
 use Rattle.meaning.specs.Lists.{gather}
 use Rattle.meaning.specs.Text.{line}

@@ -6,7 +6,7 @@ use mathlib.Core.List.{List, [], ◌∷◌, ◌++◌}
 use lib.ListN.{length, length-append, drop, set}
 use Rattle.meaning.specs.Bounds.{most_vertices, most_edges}
 use Rattle.meaning.specs.Table as Meant
-use Rattle.meaning.specs.Text.{lines_of, begun, on, Reading, unreadable, read_from}
+use Rattle.meaning.specs.Text.{lines_of, begun, Reading, unreadable, read_from}
 use Rattle.kinds.specs.declared.Refusal.{Refusal}
 use Rattle.kinds.specs.Numbers.{refusal_number}
 use Rattle.table.specs.declared.Vertex.{Vertex}

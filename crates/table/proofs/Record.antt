@@ -9,7 +9,6 @@ use Rattle.meaning.specs.Lists.{below}
 use Rattle.meaning.specs.Bounds.{most_tasks, most_vertices, most_edges}
 use Rattle.meaning.specs.Table as Meant
 use Rattle.meaning.proofs.Lists.{cells_front}
-use Rattle.table.specs.declared.Task.{Task}
 use Rattle.table.specs.Record.{padded, no_task, no_vertex, no_edge, vertex_record, edge_record, task_record, table_record, vertex_of, edge_of}
 use Rattle.table.specs.Record.{vertices_held, edges_held, task_held, blank_task, table_held}
 use Rattle.table.specs.Inner.{task_of, table_of}

@@ -31,7 +31,6 @@ use Rattle.table.proofs.Record.{table_held_record}
 use Rattle.table.proofs.Holding.{tasks_length_lem}
 use Rattle.reader.specs.declared.Reading.{Reading}
 use Rattle.reader.specs.declared.Status.{Status}
-use Rattle.reader.specs.declared.Status.TheVariants as Status
 use Rattle.reader.specs.Record.{status_numbers, Reads}
 use Rattle.reader.proofs.Result.{table_read}
 use Rattle.checks.proofs.Sound.{ruled_refused, ninth_ruled, counts_ruled, slip_ruled, mask_ruled, none-ruled}

@@ -1,5 +1,4 @@
 use native.Mathlib.Omega.{arith}
-use Prim.Native.Nat.{◌-◌}
 use Rattle.cells.proofs.Filled.{edges_none, edges_more, edges_all}
 use Rattle.cells.proofs.edges_from.Goals as goal
 

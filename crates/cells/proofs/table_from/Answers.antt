@@ -1,5 +1,4 @@
 use native.Mathlib.Omega.{arith}
-use Prim.Native.Nat.{◌-◌}
 use Rattle.cells.proofs.Turns.{turn_first, turn_end, turn_ninth, turn_cut, turn_more}
 use Rattle.cells.proofs.table_from.Goals as goal
 

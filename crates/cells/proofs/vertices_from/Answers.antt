@@ -1,5 +1,4 @@
 use native.Mathlib.Omega.{arith}
-use Prim.Native.Nat.{◌-◌}
 use Rattle.cells.proofs.Filled.{vertices-none, vertices_more, vertices-all}
 use Rattle.cells.proofs.vertices_from.Goals as goal
 

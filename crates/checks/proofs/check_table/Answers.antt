@@ -1,4 +1,3 @@
-use Prim.Native.Nat.{◌-◌}
 use native.Mathlib.Omega.{arith}
 use Rattle.checks.proofs.Tables.{turn_first, turn_ninth, turn_broken, turn_more, few_bytes, turn_none, turn_last}
 use Rattle.checks.proofs.check_table.Goals as goal

@@ -1,4 +1,3 @@
-use Prim.Native.Nat.{◌-◌}
 use mathlib.Core.Path.{◌≡◌, refl}
 use native.Mathlib.Omega.{arith}
 use Rattle.columns.proofs.TaskColumns.{column_sorted, columns_say, from_in, front-all, front_more, p_in, to_in}

@@ -1,4 +1,3 @@
-use Prim.Native.Nat.{◌-◌}
 use native.Mathlib.Omega.{arith}
 use Rattle.columns.proofs.EdgeStarts.{cutting_more, cutting_none}
 use Rattle.columns.proofs.edge_starts.Goals as goal

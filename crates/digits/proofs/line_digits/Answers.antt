@@ -1,5 +1,4 @@
 use Rattle.digits.proofs.Counting.{count_first, count_end, count_feed, count_one, count_high, count_low, count_more}
-use Prim.Native.Nat.{◌-◌}
 use Rattle.digits.proofs.line_digits.Goals as goal
 
 pub loop-i-init : goal.loop-i-init

@@ -1,6 +1,5 @@
 use native.Mathlib.Omega.{arith}
 use mathlib.Core.Path.{refl}
-use Prim.Native.Nat.{◌-◌}
 use borrow.Author.Count.{below_more}
 use Rattle.groups.proofs.FirstChild.{child_asks, child_found, child_none}
 use Rattle.groups.proofs.first_child.Goals as goal

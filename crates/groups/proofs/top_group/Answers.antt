@@ -1,5 +1,4 @@
 use native.Mathlib.Omega.{arith}
-use Prim.Native.Nat.{◌-◌}
 use Rattle.groups.specs.Lent.{arrays}
 use Rattle.groups.proofs.TopGroup.{top_none, top_asks, top_more, top_all}
 use Rattle.groups.proofs.top_group.Goals as goal

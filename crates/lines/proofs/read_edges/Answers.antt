@@ -1,5 +1,4 @@
 use Rattle.lines.proofs.Turns.{edges_first, edges_end, edges_stop, edge-fits, edges_more}
-use Prim.Native.Nat.{◌-◌}
 use native.Mathlib.Omega.{arith}
 use Rattle.lines.proofs.read_edges.Goals as goal
 

@@ -1,7 +1,6 @@
 use Rattle.lines.proofs.LinkTurns.{links_first, links_end, links_stop, link_fits, links_more}
 use Rattle.lines.specs.Parts.{took_task}
 use Rattle.lines.specs.declared.Outcome.TheVariants.{AllTaken}
-use Prim.Native.Nat.{◌-◌}
 use mathlib.Core.Path.{ap, ◌∙◌}
 use native.Mathlib.Omega.{arith}
 use Rattle.lines.proofs.read_links.Goals as goal

@@ -3,7 +3,6 @@ use Rattle.lines.proofs.Turns.{task-edge_stops, task-all}
 use Rattle.lines.specs.Parts.{took_task, covers}
 use Rattle.lines.specs.declared.Outcome.TheVariants.{AllTaken}
 use mathlib.Core.Path.{◌≡◌, sym, ap, ◌∙◌}
-use mathlib.Core.Bool.{true}
 use native.Mathlib.Omega.{arith}
 use Rattle.lines.proofs.read_plain.Goals as goal
 use Rattle.lines.proofs.read_plain.Goals.{After-mask_covered, After-read_edges-b, After-read_vertices-a}

@@ -1,5 +1,4 @@
 use Rattle.lines.proofs.Turns.{vertices-first, vertices_end, vertices_stop, vertex-fits, vertices_more}
-use Prim.Native.Nat.{◌-◌}
 use native.Mathlib.Omega.{arith}
 use Rattle.lines.proofs.read_vertices.Goals as goal
 

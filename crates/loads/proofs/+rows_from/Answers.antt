@@ -2,14 +2,11 @@ use mathlib.Core.Path.{sym, subst, ◌∙◌}
 use Prim.Native.Nat.{ℕ, ◌+◌, ◌-◌, ◌*◌, ◌≤◌}
 use native.Mathlib.Omega.{arith}
 use lib.ListN.{length, get_or}
-use borrow.Fn.PlainCycle.{is}
 use Rattle.ways.specs.Ways.{ways}
 use Rattle.ways.proofs.Turns.{edge_on}
 use Rattle.loads.specs.Rows.{Room}
 use Rattle.loads.proofs.PutRows.{going_none, going_skip, going_on, going_room, put_some, put_alone, room_here, rows_apart}
 use Rattle.loads.proofs.FollowingRows.{put_led}
-use Rattle.loads.proofs.rows_from.Reads as rows-from
-use Rattle.loads.proofs.+rows_from.Lts-rows_from as rows-from-lts
 use Rattle.loads.proofs.+rows_from.Goals as goal
 use Rattle.loads.proofs.+rows_from.Goals.{Start, Else-d-at}
 

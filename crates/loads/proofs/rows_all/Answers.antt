@@ -1,4 +1,3 @@
-use Prim.Native.Nat.{◌-◌}
 use native.Mathlib.Omega.{arith}
 use Rattle.loads.proofs.AllRows.{filling_all, filling_none, filling_on, filling_room}
 use Rattle.loads.proofs.rows_all.Goals as goal

@@ -1,5 +1,4 @@
 use native.Mathlib.Omega.{arith}
-use Prim.Native.Nat.{◌-◌}
 use Rattle.overload.proofs.Ticks.{reached_first, reached_here, reached_late, reached_jump}
 use Rattle.overload.proofs.finish.Goals as goal
 

@@ -1,4 +1,3 @@
-use Prim.Native.Nat.{◌-◌}
 use borrow.Author.Rules.{rules}
 use Rattle.meaning.specs.Text.{digits}
 use Rattle.meaning.proofs.Wrote.{gathering_none, gathering_more, gathering_all}

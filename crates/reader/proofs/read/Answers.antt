@@ -1,7 +1,7 @@
 use Rattle.reader.proofs.Turn.{turn_first, FrameTurn, frame_ends, TaskFacts, task_facts, TaskTurn, lines_few, kept, emptied}
 use Rattle.reader.proofs.Turn.{task_stops, task_more}
 use Rattle.reader.proofs.Result.{reading_reads}
-use Prim.Native.Nat.{◌+◌, ◌-◌}
+use Prim.Native.Nat.{◌+◌}
 use mathlib.Core.Path.{◌≡◌, sym, ap, ◌∙◌}
 use Rattle.meaning.specs.Text.{read}
 use Rattle.reader.specs.declared.Status.{Status}

@@ -1,4 +1,3 @@
-use Prim.Native.Nat.{◌-◌}
 use native.Mathlib.Omega.{arith}
 use Rattle.table.proofs.Largest.{largest-none, largest_more, largest-all}
 use Rattle.table.proofs.largest_e.Goals as goal

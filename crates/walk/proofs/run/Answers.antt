@@ -1,6 +1,5 @@
 use native.Mathlib.Omega.{arith}
 use mathlib.Core.Path.{refl, ◌∙◌}
-use Prim.Native.Nat.{◌-◌}
 use Rattle.groups.proofs.LaidOut.{wider}
 use Rattle.walk.proofs.Running.{going_top, going_out, going_next, going_last, going_witness}
 use Rattle.walk.proofs.run.Goals as goal

@@ -1,4 +1,3 @@
-use Prim.Native.Nat.{◌-◌}
 use borrow.Author.Rules.{rules}
 use native.Mathlib.Omega.{arith}
 use Rattle.desk_frames.proofs.PathLines.{pathing_none, inside, ahead, path_asks, pathing_more, pathing_all}

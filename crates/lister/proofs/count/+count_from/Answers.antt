@@ -1,4 +1,3 @@
-use Prim.Native.Nat.{◌-◌}
 use native.Mathlib.Omega.{arith}
 use Rattle.ways.proofs.Turns.{edge_on}
 use Rattle.lister.proofs.CountLoop.{counting_none, counting_skip, counting_on, counting_full, counted_none, counted_some}

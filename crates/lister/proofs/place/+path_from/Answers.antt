@@ -1,6 +1,5 @@
-use Prim.Native.Nat.{◌+◌, ◌-◌}
+use Prim.Native.Nat.{◌+◌}
 use native.Mathlib.Omega.{arith}
-use borrow.Fn.PlainCycle.{is}
 use Rattle.ways.proofs.Turns.{edge_on}
 use Rattle.lister.proofs.Places.{here, past_one, past_some, seeking_found, seeking_none, seeking_on, seeking_skip}
 use Rattle.lister.proofs.place.+path_from.Goals as goal

@@ -1,4 +1,3 @@
-use Prim.Native.Nat.{◌-◌}
 use native.Mathlib.Omega.{arith}
 use Rattle.lister.proofs.AllPlaces.{passing_none, passing_on, passing_found, passing_past}
 use Rattle.lister.proofs.place.path_all.Goals as goal

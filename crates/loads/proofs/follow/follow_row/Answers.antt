@@ -1,4 +1,3 @@
-use Prim.Native.Nat.{◌-◌}
 use native.Mathlib.Omega.{arith}
 use Rattle.ways.proofs.Turns.{Turn, turn_first, edge_on}
 use Rattle.loads.proofs.FollowingRows.{led_none, led_on}

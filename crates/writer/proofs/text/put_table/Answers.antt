@@ -1,4 +1,3 @@
-use Prim.Native.Nat.{◌-◌}
 use native.Mathlib.Omega.{arith}
 use Rattle.meaning.proofs.Wrote.{gathering_none, counting_more}
 use Rattle.writer.proofs.TableLines.{few_tasks, few_parts, task_asks, end_asks, table_put}

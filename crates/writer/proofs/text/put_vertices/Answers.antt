@@ -1,5 +1,4 @@
 use mathlib.Core.Path.{refl}
-use Prim.Native.Nat.{◌-◌}
 use Rattle.meaning.specs.Writing.{frame_of_vertex}
 use Rattle.meaning.proofs.Wrote.{gathering_none, counting_more}
 use Rattle.table.specs.Record.{vertices_held}
