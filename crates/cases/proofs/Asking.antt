@@ -1,6 +1,6 @@
 -- A loop over a table's vertices that asks something of each and counts its verdicts: what holds when it comes to a place.
 use mathlib.Core.Path.{◌≡◌, sym, ap, subst}
-use Prim.Native.Nat.{ℕ, ◌+◌, ◌*◌, ◌≤◌, ◌<◌}
+use Prim.Native.Nat.{◌+◌, ◌*◌, ◌≤◌, ◌<◌}
 use native.Mathlib.Omega.{arith}
 use lib.ListN.{length}
 use Rattle.meaning.specs.Bounds.{most_tasks, most_vertices}
@@ -15,7 +15,7 @@ use Rattle.table.proofs.Vertices.{own_task}
 use Rattle.counts.specs.declared.Counts.{Counts}
 use Rattle.counts.specs.Inner.{total, no_counts, one_more}
 use Rattle.counts.specs.Place.{first_place, next_place, Within}
-use Rattle.judge.specs.Inner.{next_in, There}
+use Rattle.judge.specs.Inner.{There}
 use Rattle.judge.proofs.Remaining.{remaining, remaining-first, there_within, next_in_lem}
 use Rattle.judge.proofs.Remaining.{Reached, reached_first, reached_there, reached_next, reached_fewer}
 

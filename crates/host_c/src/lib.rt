@@ -44,7 +44,9 @@ pub extern "C" fn tectavirio_latest(
 ) -> u8
     ensures { LatestTold text.now task vertex budget work.old witness.old result value.new place.new finish.new work.new witness.new }
 {
-    host::tectavirio_latest(text, task, vertex, budget, work, witness, value, place, finish)
+    host::tectavirio_latest(
+        text, task, vertex, budget, work, witness, value, place, finish,
+    )
 }
 
 #[unsafe(no_mangle)]

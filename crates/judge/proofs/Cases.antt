@@ -8,7 +8,6 @@ use Rattle.meaning.specs.Paths.{Path}
 use Rattle.meaning.specs.Verdict as Said
 use Rattle.meaning.specs.Verdict.{meets, misses, unfinished, refused, numbers, cells_of}
 use Rattle.kinds.specs.declared.RefusedAt.{RefusedAt}
-use Rattle.kinds.specs.declared.Verdict.{Verdict}
 use Rattle.kinds.specs.declared.Verdict.TheVariants.{Meets, Misses, Unfinished, Refused}
 use Rattle.kinds.specs.Numbers.{refusal_number, verdict_numbers}
 

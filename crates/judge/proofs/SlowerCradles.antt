@@ -1,5 +1,5 @@
 -- What wish 7 promises of paths, of the desk's refusals and of its frames.
-use mathlib.Core.Path.{◌≡◌, refl, sym, subst}
+use mathlib.Core.Path.{refl, sym, subst}
 use mathlib.Core.List.{Memᴰ}
 use lib.ListN.{replicate}
 use native.Mathlib.Nat.{le_trans}

@@ -5,7 +5,6 @@ use native.Mathlib.Omega.{arith}
 use mathlib.Core.List.{List, [], ◌∷◌, map, Memᴰ}
 use lib.ListN.{length, length-map}
 use Rattle.meaning.specs.Bounds.{most_tasks, most_vertices, desk_witness}
-use Rattle.meaning.specs.Verdict as Said
 use Rattle.meaning.specs.Verdict.{numbers, plain}
 use Rattle.meaning.specs.Judge.{judged}
 use Rattle.meaning.specs.Whole.{Place, places, verdict_at, verdicts, counts_of}

@@ -1,4 +1,3 @@
-use Prim.Native.Nat.{◌-◌}
 use borrow.Author.Rules.{rules}
 use Rattle.areas.proofs.Fronts.{zeroing_none, zeroing_more, zeroing_all}
 use Rattle.areas.proofs.clear.Goals as goal

@@ -4,15 +4,14 @@ use mathlib.Core.List.{List}
 use Rattle.table.specs.declared.Table.{Table}
 use Rattle.table.specs.Inner.{Held}
 use Rattle.judge.specs.Inner.{There}
-use Prim.Native.Nat.{ℕ, ◌+◌, ◌-◌}
+use Prim.Native.Nat.{ℕ, ◌+◌}
 use native.Mathlib.Omega.{arith}
-use Rattle.meaning.specs.Table.{higher}
-use Rattle.meaning.specs.Verdict.{B, own_e}
+use Rattle.meaning.specs.Verdict.{own_e}
 use Rattle.table.specs.Inner.{table_of}
 use Rattle.search.specs.Meant.{asked_by}
 use Rattle.table.proofs.Records.{held_few}
 use Rattle.table.proofs.Vertices.{own_vertex, own_few}
-use Rattle.judge.proofs.OneVertex.{Asked, AllCounted, RowsPassed, AllFilled, Ran, AllWritten}
+use Rattle.judge.proofs.OneVertex.{Asked, AllCounted, RowsPassed, AllFilled, Ran}
 use Rattle.judge.proofs.OneVertex.{task_in_lem, vertex_in_lem, counting_none, count_asks, answer_9, with_paths_asks, counting_more, area_asks, answer_areas}
 use Rattle.judge.proofs.OneVertex.{filling_none, stretch_asks, filling_more, search_asks, ran_is, shown-within, writing-none, write_asks, writing_more}
 use Rattle.judge.proofs.OneVertex.{writing-all, cells_few, finish-fits, answer-walked}
@@ -40,22 +39,25 @@ asked c = asked_of c.args.late c.args.t c.requires.0 c.args.task.0 c.args.vertex
 
 -- where each of the first three loops ends, where no row refuses, e with the longest mask, and what the walk said
 abbrev counted_all : (c : After-loop-j) → (a : Asked) × AllCounted a
-counted_all c =
-    (asked_of c.args.late c.args.t c.requires.0 c.args.task.0 c.args.vertex.0 c.args.budget c.args.work.now c.args.witness.now c.requires.1,
-    record { above = c.loop-j.above; up_to = c.loop-j.j; counted = c.loop-j.invariant; full = c.loop-j-test.false })
+counted_all c = (
+  asked_of c.args.late c.args.t c.requires.0 c.args.task.0 c.args.vertex.0 c.args.budget c.args.work.now c.args.witness.now c.requires.1,
+  record { above = c.loop-j.above; up_to = c.loop-j.j; counted = c.loop-j.invariant; full = c.loop-j-test.false },
+)
 
 abbrev rows_passed : (c : In_default) → (a : Asked) × (n : AllCounted a) × RowsPassed a n
-rows_passed c =
-    (asked_of c.args.late c.args.t c.requires.0 c.args.task.0 c.args.vertex.0 c.args.budget c.args.work.now c.args.witness.now c.requires.1,
-    record { above = c.loop-j.above; up_to = c.loop-j.j; counted = c.loop-j.invariant; full = c.loop-j-test.false },
-    record { rows = c.area_rows-rows.result; are = c.area_rows-rows.ensures; passed = c.in_default.is })
+rows_passed c = (
+  asked_of c.args.late c.args.t c.requires.0 c.args.task.0 c.args.vertex.0 c.args.budget c.args.work.now c.args.witness.now c.requires.1,
+  record { above = c.loop-j.above; up_to = c.loop-j.j; counted = c.loop-j.invariant; full = c.loop-j-test.false },
+  record { rows = c.area_rows-rows.result; are = c.area_rows-rows.ensures; passed = c.in_default.is },
+)
 
 abbrev filled_all : (c : After-loop-k) → (a : Asked) × (n : AllCounted a) × (r : RowsPassed a n) × AllFilled a n r
-filled_all c =
-    (asked_of c.args.late c.args.t c.requires.0 c.args.task.0 c.args.vertex.0 c.args.budget c.args.work.now c.args.witness.now c.requires.1,
-    record { above = c.loop-j.above; up_to = c.loop-j.j; counted = c.loop-j.invariant; full = c.loop-j-test.false },
-    record { rows = c.area_rows-rows.result; are = c.area_rows-rows.ensures; passed = c.in_default.is },
-    record { cells = c.loop-k.work; up_to = c.loop-k.k; filled = c.loop-k.invariant; full = c.loop-k-test.false })
+filled_all c = (
+  asked_of c.args.late c.args.t c.requires.0 c.args.task.0 c.args.vertex.0 c.args.budget c.args.work.now c.args.witness.now c.requires.1,
+  record { above = c.loop-j.above; up_to = c.loop-j.j; counted = c.loop-j.invariant; full = c.loop-j-test.false },
+  record { rows = c.area_rows-rows.result; are = c.area_rows-rows.ensures; passed = c.in_default.is },
+  record { cells = c.loop-k.work; up_to = c.loop-k.k; filled = c.loop-k.invariant; full = c.loop-k-test.false },
+)
 
 abbrev own_e_is : (c : After-loop-low) {x : ℕ} → x ≡ (own_vertex c.args.t c.args.task.0 c.args.vertex.0).e.0 + c.loop-low.masked.0
     → x ≡ own_e (table_of c.args.t) c.args.task.0 c.args.vertex.0
@@ -69,12 +71,16 @@ ran c =
     let n : AllCounted a = record { above = c.loop-j.above; up_to = c.loop-j.j; counted = c.loop-j.invariant; full = c.loop-j-test.false } in
     let r : RowsPassed a n = record { rows = c.area_rows-rows.result; are = c.area_rows-rows.ensures; passed = c.in_default.is } in
     let f : AllFilled a n r = record { cells = c.loop-k.work; up_to = c.loop-k.k; filled = c.loop-k.invariant; full = c.loop-k-test.false } in
-    let mask = masked_all _ a.held _ c.loop-low.invariant (omega (arith, c.loop-low-test.false)) in
-    (a, n, r, f,
-    record {
-      result = c.search-walked.result;
-      is = ran_is a n r f (rule_e _ a.held _ (task_in_lem a) _ (vertex_in_lem a) mask (omega arith)) c.first_bar-bar.ensures c.search-walked.ensures.value;
-    })
+    let mask = masked_all _ a.held _ c.loop-low.invariant (omega (arith, c.loop-low-test.false)) in (
+      a,
+      n,
+      r,
+      f,
+      record {
+        result = c.search-walked.result;
+        is = ran_is a n r f (rule_e _ a.held _ (task_in_lem a) _ (vertex_in_lem a) mask (omega arith)) c.first_bar-bar.ensures c.search-walked.ensures.value;
+      },
+    )
 
 pub bounds-t-h : goal.bounds-t-h
 bounds-t-h c = omega (arith, task_in_lem (asked (goal.at.bounds-t-h c).Start), held_few c.args.t c.requires.0)
