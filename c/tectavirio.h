@@ -1,6 +1,6 @@
 /* Tectavirio's proved calls, for a C host on x86-64 Linux. In the project's folder
  *
- *     rt staticlib host
+ *     mkdir -p target/staticlib && (cd crates/host_c && rt lib && cp out/libhost_c.a ../../target/staticlib/libhost.a)
  *
  * proves the calls and writes target/staticlib/libhost.a, which has all that begin with tectavirio_, and
  *
@@ -91,8 +91,8 @@ uint32_t tectavirio_text_check(const uint8_t *text, size_t text_bytes);
 static inline unsigned tectavirio_checked_refusal(uint32_t checked) { return checked / 65536; }
 static inline unsigned tectavirio_checked_line(uint32_t checked) { return checked % 65536; }
 
-/* The same call by itself, by document 01's name: `rt staticlib reader` writes target/staticlib/libreader.a, which has it and can be linked alone or
- * beside libhost.a. */
+/* The same call by itself, by document 01's name: `rt lib` in crates/reader_c writes out/libreader_c.a there, as target/staticlib/libreader.a of .ci/c-host,
+ * which has it and can be linked alone or beside libhost.a. */
 uint32_t text_check(const uint8_t *text, size_t text_bytes);
 
 /* Judges one vertex of the text's table and gives its verdict's number. Task, vertex and budget are any numbers from 0 to 4,294,967,295. A lower task
