@@ -1,4 +1,4 @@
-use mathlib.Core.Path.{◌∙◌}
+use Prim.Native.Nat.{◌+◌, ◌*◌}
 use native.Mathlib.Omega.{arith}
 use Rattle.sheet.proofs.Needs.{need_small, cells_small, row_10, row_11, rows_passed}
 use Rattle.sheet.proofs.area_rows.Goals as goal
@@ -15,15 +15,18 @@ overflow_cast-work_place c = omega (arith, need_small (c.args.rows) c.args.d.0 (
 pub overflow_cast-witness_place : goal.overflow_cast-witness_place
 overflow_cast-witness_place c = omega (arith, cells_small (c.args.h) c.args.d.0 (c.requires.1) (c.requires.2))
 
+-- what the tests say and what the call gave is left to the tactic
 pub returns-then-work-need : goal.returns-then-work-need
 returns-then-work-need c =
-    (c.area_row.ensures)
-    ∙ row_10 _ _ (c.args.work) (c.args.witness) (c.if-work-need.true)
+    let a = c.args in
+    let row = row_10 (a.rows * a.d.0) (a.h * (1 + a.d.0)) a.work a.witness in
+    grind (arith, row)
 
 pub returns-then-witness-cells : goal.returns-then-witness-cells
 returns-then-witness-cells c =
-    (c.area_row-then-witness-cells.ensures) ∙ row_11 _ _ (c.args.work)
-    (c.args.witness) (c.if-work-need.false) (c.if-witness-cells.true)
+    let a = c.args in
+    let row = row_11 (a.rows * a.d.0) (a.h * (1 + a.d.0)) a.work a.witness in
+    grind (arith, row)
 
 pub returns : goal.returns
 returns c = rows_passed _ _ (c.args.work) (c.args.witness) (c.if-work-need.false) (c.if-witness-cells.false)
