@@ -204,7 +204,7 @@ pub record TableMasks : Type 0 where
 -- ---- slower cradles
 
 -- "Raise d to 1,000 and p to 60,000", "The program lends 7,007 witness cells. Its work area stays": these numbers. That every table within them is written
--- and read stands on the writer's page (`AsPlainTasks`, `fits`), and so does that no other is written (`only-sound`); that none is read is `ReadableSound`.
+-- and read stands on the writer's page (`AsPlainTasks`, `fits`), and so does that no other is written (`only_sound`); that none is read is `ReadableSound`.
 --
 -- "A path may now have 1,000 vertices": no complete path has more, and one has so many. The witness cells are as many as any vertex needs: the desk refuses
 -- none by 11.

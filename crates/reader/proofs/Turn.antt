@@ -3,6 +3,7 @@ use mathlib.Core.Path.{◌≡◌, refl, sym, ap, ◌∙◌}
 use Prim.Native.Nat.{ℕ, zero, suc, ◌+◌, ◌-◌, ◌*◌, ◌≤◌, ◌<◌}
 use native.Mathlib.Omega.{arith}
 use mathlib.Core.Bool.{Bool, true, false}
+use mathlib.Core.Logic.{◌⊎◌, inl, inr}
 use mathlib.Core.List.{List}
 use lib.ListN.{length, drop, length-drop}
 use lib.Seq.{drop-drop}
@@ -16,6 +17,8 @@ use Rattle.kinds.specs.declared.Refusal.{Refusal}
 use Rattle.kinds.specs.declared.Refusal.TheVariants.{WrongFrame, BytesAfterEnd}
 use Rattle.table.specs.declared.Table.{Table}
 use Rattle.table.specs.Inner.{no_table}
+use denote.Enum.Declared.{tag_of}
+use Rattle.frames.specs.contracts.TaskOrEndLine.{the_type}
 use Rattle.frames.specs.declared.Head.{Head}
 use Rattle.frames.specs.declared.TaskOrEndLine.{TaskOrEndLine}
 use Rattle.frames.specs.declared.TaskOrEndLine.TheVariants.{TaskTaken, EndTaken, FrameRefused}
@@ -66,6 +69,10 @@ pub not_refused : (x : TaskOrEndLine) → ((w : Refusal) → x ≡ FrameRefused 
 not_refused (TaskTaken k) h line left = refl
 not_refused EndTaken h line left = refl
 not_refused (FrameRefused w) h line left = absurd (h w refl)
+
+pub no_task_taken : {x : TaskOrEndLine} → (tag_of the_type x ≡ 1) ⊎ (tag_of the_type x ≡ 2) → (h : Head) → x ≡ TaskTaken h → ⊥
+no_task_taken (inl h) k q = omega (arith, h, ap (tag_of the_type) q)
+no_task_taken (inr h) k q = omega (arith, h, ap (tag_of the_type) q)
 
 -- the line at `at` gives x
 pub record FrameTurn (s : List ℕ) (t : Table) (at line : ℕ) (x : TaskOrEndLine) : Type 0 where
