@@ -20,6 +20,7 @@ use Rattle.table.specs.Inner.{task_of, HeldTask}
 use Rattle.ways.specs.Ways.{most_counted}
 use Rattle.ranges.specs.Stretch.{stretch_cells, stretch_of}
 use Rattle.ranges.proofs.CellBounds.{stretch_length}
+use Rattle.groups.specs.Lent.{roots, counts}
 use Rattle.areas.specs.Above.{path_counts, rows_in, above_of}
 use Rattle.areas.specs.Stretches.{stretches}
 use Rattle.areas.proofs.Counting.{rows_more, rows_take, rows_few, above_count, above_root, above_rows}
@@ -111,11 +112,11 @@ module _ (ks : List Meant.Task) (d : ℕ) (f : Few ks d) where
 
     -- a task's stretch: how many paths, where it begins, where it ends
     pub record At : Type 0 where
-      pub some : 1 ≤ get_or (above_of d ns).counts j 0
-      pub few : get_or (above_of d ns).counts j 0 ≤ most_paths
-      pub paths : get_or (above_of d ns).counts j 0 ≡ length (paths_of task d)
-      pub from : get_or (above_of d ns).roots j 0 ≡ length (stretches (take j ks) d)
-      pub within : get_or (above_of d ns).roots j 0 + stretch_cells d (get_or (above_of d ns).counts j 0) ≤ (above_of d ns).rows * d
+      pub some : 1 ≤ get_or (counts (above_of d ns).stretches) j 0
+      pub few : get_or (counts (above_of d ns).stretches) j 0 ≤ most_paths
+      pub paths : get_or (counts (above_of d ns).stretches) j 0 ≡ length (paths_of task d)
+      pub from : get_or (roots (above_of d ns).stretches) j 0 ≡ length (stretches (take j ks) d)
+      pub within : get_or (roots (above_of d ns).stretches) j 0 + stretch_cells d (get_or (counts (above_of d ns).stretches) j 0) ≤ (above_of d ns).rows * d
 
     pub at : At
     at =
@@ -123,7 +124,7 @@ module _ (ks : List Meant.Task) (d : ℕ) (f : Few ks d) where
         let count = above_count d ns seven j l in
         let paths : get_or ns j 0 ≡ length (paths_of task d) = get_or_mapped (λ (x : Meant.Task). length (paths_of x d)) 0 no_task ks j m in
         let root = above_root d ns seven j l in
-        let to : get_or (above_of d ns).roots j 0 + stretch_cells d (get_or (above_of d ns).counts j 0) ≡ rows_in (take (j + 1) ns) * d = (
+        let to : get_or (roots (above_of d ns).stretches) j 0 + stretch_cells d (get_or (counts (above_of d ns).stretches) j 0) ≡ rows_in (take (j + 1) ns) * d = (
         ap₂ (λ (u v : ℕ). u + rows_for v * d) root count ∙ sym (add-mul (rows_in (take j ns)) (rows_for (get_or ns j 0)) d)
         ∙ ap (λ (r : ℕ). r * d) (sym (rows_more ns j l))
         ) in

@@ -1,5 +1,4 @@
 pub mod Counting
 pub mod Fronts
 pub mod Filling
-pub mod Placing
 pub mod Witnesses

@@ -1,10 +1,11 @@
 -- The paths of a miss at their places, one task after the other.
-use mathlib.Core.Path.{◌≡◌, refl, ap, ap₂, subst, ◌∙◌}
+use mathlib.Core.Path.{◌≡◌, refl, sym, ap, ap₂, subst, ◌∙◌}
 use Prim.Native.Nat.{ℕ, zero, suc, ◌+◌, ◌≤◌, ◌<◌, zero-le}
 use native.Mathlib.Omega.{arith}
 use native.Mathlib.Decide.{dec_lt}
 use mathlib.Core.List.{List, [], ◌∷◌}
-use lib.ListN.{length, take, get_or, set, length-set, get_or-eq_default}
+use lib.ListN.{length, take, get_or, set, get_or-eq_default}
+use lib.Seq.{sets, length-take-le, take_all}
 use Rattle.meaning.specs.Bounds.{largest_d}
 use Rattle.meaning.specs.Table as Meant
 use Rattle.meaning.specs.Table.{no_task}
@@ -20,7 +21,6 @@ use Rattle.table.proofs.Record.{take-padded, length-padded}
 use Rattle.lister.specs.declared.Path as Lister
 use Rattle.lister.specs.Place.{path_record}
 use Rattle.areas.specs.Witness.{path_cell, path_at, paths_at}
-use Rattle.areas.proofs.Placing.{Placing, placing_none, placing_all}
 
 -- ---- the path at a place
 
@@ -54,17 +54,22 @@ module _ {t : Task} {d : ℕ} {r : Lister.Path} (k : HeldTask t) (o : 0 < d) (u 
   unfolding path_record
   front = ap (λ (x : Lister.Path). take x.len x.vertices) e ∙ take-padded largest_d 0 path
 
-  -- its length is written, and then its vertices are placed
-  module _ (at : ℕ) (before : List ℕ) (room : at + (1 + d) ≤ length before) where
-    pub place_begun : Placing r.vertices r.len (at + 1) (set before at r.len) (set before at r.len) 0
-    place_begun = placing_none r.vertices r.len (at + 1) _ (omega (arith, len_short)) size (rw length-set (omega (arith, len_short)))
+  pub path-size : length (take r.len r.vertices) ≡ r.len
+  path-size = length-take-le r.len r.vertices (omega (arith, size, len_short))
 
-    pub place_written : {after : List ℕ} {i : ℕ} → Placing r.vertices r.len (at + 1) (set before at r.len) after i → r.len ≤ i
-        → Wrote (path_cell path) before at after (at + 1 + r.len) × (at + 1 + r.len ≤ at + (1 + d))
-    place_written {after} p h =
-        let w = wrote_then (r.len ∷ []) (take r.len r.vertices) (record { cells = refl; end = refl }) (placing_all p h) in
-        let same : r.len ∷ take r.len r.vertices ≡ path_cell path = ap₂ (λ (n : ℕ) (x : List ℕ). n ∷ x) len front in
-        (subst (λ (x : List ℕ). Wrote x before at after (at + 1 + r.len)) same w, omega (arith, len_short))
+  -- its length is written, and then its vertices
+  pub place_written : (at : ℕ) (before : List ℕ) {after : List ℕ} {i : ℕ}
+      → after ≡ sets (set before at r.len) (at + 1) (take i (take r.len r.vertices)) → length (take r.len r.vertices) ≤ i
+      → Wrote (path_cell path) before at after (at + 1 + r.len) × (at + 1 + r.len ≤ at + (1 + d))
+  place_written at before {after} {i} cells h =
+      let xs = take r.len r.vertices in
+      let all : Wrote xs (set before at r.len) (at + 1) after (at + 1 + r.len) = record {
+        cells = cells ∙ ap (sets (set before at r.len) (at + 1)) (take_all i xs h);
+        end = ap (λ (n : ℕ). at + 1 + n) (sym path-size);
+      } in
+      let w = wrote_then (r.len ∷ []) xs (record { cells = refl; end = refl }) all in
+      let same : r.len ∷ xs ≡ path_cell path = ap₂ (λ (n : ℕ) (x : List ℕ). n ∷ x) len front in
+      (subst (λ (x : List ℕ). Wrote x before at after (at + 1 + r.len)) same w, omega (arith, len_short))
 
 -- ---- the paths at their places
 

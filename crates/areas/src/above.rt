@@ -3,14 +3,14 @@ ghost use Rattle.std.specs.Prelude.{◌≡◌, ◌≤◌, ◌<◌};
 ghost use Rattle.meaning.specs.Bounds.{most_higher, most_paths, largest_d};
 ghost use Rattle.areas.specs.Above.{none_above, with_paths, Counted};
 
-use bounds::{MOST_HIGHER, PerTask};
+use bounds::MOST_HIGHER;
+use groups::Stretch;
 use kinds::Ticks;
 
-// Of the tasks counted so far: how many paths each has, where its stretch begins, zeros behind them; and how many rows they have in all.
+// Of the tasks counted so far: their stretches, zeros behind them; and how many rows they have in all.
 #[derive(Clone, Copy)]
 pub struct Above {
-    pub counts: PerTask,
-    pub roots: PerTask,
+    pub stretches: [Stretch; MOST_HIGHER],
     pub rows: usize,
 }
 
@@ -18,8 +18,7 @@ pub fn none_above() -> Above
     ensures { result ≡ none_above }
 {
     Above {
-        counts: [0; MOST_HIGHER],
-        roots: [0; MOST_HIGHER],
+        stretches: [Stretch { root: 0, count: 0 }; MOST_HIGHER],
         rows: 0,
     }
 }
@@ -31,8 +30,10 @@ pub fn with_paths(above: Above, j: usize, paths: usize, d: Ticks) -> Above
     ensures { result ≡ with_paths above j paths d.0 }
 {
     let mut next = above;
-    next.counts[j] = paths;
-    next.roots[j] = above.rows * (d.0 as usize);
+    next.stretches[j] = Stretch {
+        root: above.rows * usize::from(d.0),
+        count: paths,
+    };
     next.rows = above.rows + (2 * paths - 1);
     next
 }

@@ -13,9 +13,5 @@ pub fn clear(work: &mut [u32], n: usize)
     requires { n ≤ length work.old }
     ensures { work.new ≡ zeroed n work.old }
 {
-    let mut i: usize = 0;
-    while i < n {
-        work[i] = 0;
-        i += 1;
-    }
+    work[..n].fill(0);
 }

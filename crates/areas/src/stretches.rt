@@ -10,11 +10,11 @@ use kinds::Ticks;
 use table::Task;
 
 // The stretch of a task with so many paths, which begins at `from`.
-pub fn fill_stretch(work: &mut [u32], from: usize, t: Task, paths: usize, d: Ticks)
-    requires held_task { HeldTask t × (paths ≡ length (paths_of (task_of t) d.0)) × (paths ≤ most_paths) }
+pub fn fill_stretch(work: &mut [u32], from: usize, t: &Task, paths: usize, d: Ticks)
+    requires held_task { HeldTask t.now × (paths ≡ length (paths_of (task_of t.now) d.0)) × (paths ≤ most_paths) }
     requires d_nonzero { (0 < d.0) × (d.0 ≤ largest_d) × (from + stretch_cells d.0 paths ≤ length work.old) }
-    ensures { work.new ≡ sets work.old from (stretch_of (task_of t) d.0) }
+    ensures { work.new ≡ sets work.old from (stretch_of (task_of t.now) d.0) }
 {
-    let to = from + (2 * paths - 1) * (d.0 as usize);
+    let to = from + (2 * paths - 1) * usize::from(d.0);
     ranges::fill(&mut work[from..to], t, paths, d);
 }

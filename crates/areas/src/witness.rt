@@ -11,18 +11,16 @@ use paths::path_at;
 use table::Task;
 
 // The path at a place of a task's list, from a place of the area on; gives the place behind it.
-pub fn write_place(witness: &mut [u16], at: usize, t: Task, d: Ticks, place: usize) -> usize
-    requires { HeldTask t × (0 < d.0) × (d.0 ≤ largest_d) × (place ≤ most_counted) × (at + (1 + d.0) ≤ length witness.old) }
-    ensures { Wrote (path_cell (path_at (task_of t) d.0 place)) witness.old at witness.new result × (result ≤ at + (1 + d.0)) }
+pub fn write_place(witness: &mut [u16], at: usize, t: &Task, d: Ticks, place: usize) -> usize
+    requires { HeldTask t.now × (0 < d.0) × (d.0 ≤ largest_d) × (place ≤ most_counted) × (at + (1 + d.0) ≤ length witness.old) }
+    ensures { Wrote (path_cell (path_at (task_of t.now) d.0 place)) witness.old at witness.new result × (result ≤ at + (1 + d.0)) }
 {
     let path = path_at(t, d, place);
-    let len = path.len;
-    witness[at] = len as u16;
+    let vertices = &path.vertices[..path.len];
+    witness[at] = path.len as u16;
     let from = at + 1;
-    let mut i: usize = 0;
-    while i < len {
-        witness[from + i] = path.vertices[i] as u16;
-        i += 1;
+    for (i, v) in vertices.iter().enumerate() {
+        witness[from + i] = u16::from(*v);
     }
-    from + len
+    from + path.len
 }

@@ -9,6 +9,6 @@ pub(crate) fn print(text: &[u8]) {
         return;
     }
     io::write_all(1, b"1e");
-    io::print_hex(1, packed as u64, 6);
+    io::print_hex(1, u64::from(packed), 6);
     end_line();
 }

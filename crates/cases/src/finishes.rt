@@ -2,15 +2,15 @@
 // finishes (4 bytes); or the desk's frame of a refused text. With the desk's budget, and areas for any vertex that are neither marked nor looked at.
 ghost use Rattle.table.specs.Inner.{Held};
 
-use crate::numbers::sum;
+use crate::lent::Areas;
 use crate::print::end_line;
 use crate::whole::{print_counts, print_refusal};
 use bounds::DESK_BUDGET;
-use counts::places::{first_place, next_place};
-use counts::{Counts, counted, no_counts};
+use counts::Counts;
+use counts::places::Places;
 use judge::latest;
-use kinds::{lateness_finish, verdict_in};
-use reader::{Status, read};
+use kinds::Verdict;
+use reader::read;
 use table::Table;
 
 fn print_line(counts: Counts, finishes: u64) {
@@ -19,29 +19,30 @@ fn print_line(counts: Counts, finishes: u64) {
     end_line();
 }
 
-fn print_finishes(text: &[u8], table: Table, work: &mut [u32], witness: &mut [u16])
-    requires { Held table }
+// The sum of the finishes doesn't get to where it stops: at most 96 of at most 1,000 ticks.
+fn print_finishes(text: &[u8], table: &Table, areas: &mut Areas)
+    requires { Held table.now }
 {
-    let mut counts = no_counts();
+    let mut counts = Counts::none();
     let mut finishes: u64 = 0;
-    let mut at = first_place();
-    while (at.task.0 as usize) < table.n {
-        let own = table.tasks[at.task.0 as usize];
-        let told = latest(text, at.task, at.vertex, DESK_BUDGET, work, witness);
-        counts = counted(counts, verdict_in(told));
-        finishes = sum(finishes, lateness_finish(told) as u64);
-        at = next_place(own.nv, at);
+    for at in Places::of(table) {
+        let told = latest(
+            text,
+            at.task,
+            at.vertex,
+            DESK_BUDGET,
+            &mut areas.work,
+            &mut areas.witness,
+        );
+        counts = counts.counted(Verdict::from(told));
+        finishes = finishes.saturating_add(u64::from(told.finish()));
     }
     print_line(counts, finishes);
 }
 
-pub(crate) fn print(text: &[u8], work: &mut [u32], witness: &mut [u16]) {
-    let reading = read(text);
-    let status = reading.status;
-    let Status::Refused(at) = status else {
-        let table = reading.table;
-        print_finishes(text, table, work, witness);
-        return;
-    };
-    print_refusal(at, 0);
+pub(crate) fn print(text: &[u8], areas: &mut Areas) {
+    match read(text) {
+        Ok(table) => print_finishes(text, &table, areas),
+        Err(at) => print_refusal(at, 0),
+    }
 }

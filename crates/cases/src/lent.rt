@@ -1,133 +1,96 @@
-// What a call leaves in its areas. Before it each cell holds its own mark, a number that no judge writes. The line of a case goes on with the
+// What a call leaves in its areas. Before it each cell holds its own mark, a number that no call writes. The line of a case goes on with the
 // zeros at the work area's front (4 bytes) and whether all cells behind them hold their marks (1), then with the cells written at the witness
 // area's front (4), whether all behind them hold their marks (1), and those cells themselves (2 each).
 ghost use Rattle.std.specs.Prelude.{◌≤◌, length};
-ghost use Rattle.cases.specs.Listing.{stretch_room};
 
-use bounds::{MOST_WITNESS, MOST_WORK};
+use bounds::{LONGEST_OUTPUT, MOST_WITNESS, MOST_WORK};
 
 // So many cells more than any vertex needs, so that what lies behind the needed ones is seen.
 const SPARE: usize = 100;
 
-const WORK_CELLS: usize = MOST_WORK + SPARE;
+pub(crate) const WORK_CELLS: usize = MOST_WORK + SPARE;
 
-const WITNESS_CELLS: usize = MOST_WITNESS + SPARE;
+pub(crate) const WITNESS_CELLS: usize = MOST_WITNESS + SPARE;
 
-// Functions of their own, so that who calls them sees their lengths and not their cells.
-pub(crate) fn work_room() -> [u32; WORK_CELLS]
-    ensures { stretch_room ≤ length result }
-{
-    [0; WORK_CELLS]
+// So many bytes have marks that differ.
+const BYTE_MARKS: usize = 97;
+
+// What is lent to the calls: areas of cells enough for any vertex, and room for any output.
+#[derive(Drop)]
+pub(crate) struct Areas {
+    pub(crate) work: [u32; WORK_CELLS],
+    pub(crate) witness: [u16; WITNESS_CELLS],
+    pub(crate) out: [u8; LONGEST_OUTPUT],
 }
 
-pub(crate) fn witness_room() -> [u16; WITNESS_CELLS] {
-    [0; WITNESS_CELLS]
+// A cell of an area, and the mark of the cell at a place: a work cell, a witness cell, or a byte of a text that is written.
+pub(crate) trait Cell: Copy + PartialEq {
+    fn mark(i: usize) -> Self;
 }
 
-// The least of what is asked for and what there is.
-pub(crate) fn least(a: usize, b: usize) -> usize
-    ensures { result ≤ b }
-{
-    if a < b {
-        return a;
-    }
-    b
-}
-
-fn work_mark(i: usize) -> u32 {
-    0xa5a50000 + (i % WORK_CELLS) as u32
-}
-
-fn witness_mark(i: usize) -> u16 {
-    0x5a00 + (i % WITNESS_CELLS) as u16
-}
-
-pub(crate) fn mark_work(work: &mut [u32]) {
-    let mut i = 0;
-    while i < work.len() {
-        work[i] = work_mark(i);
-        i += 1;
+impl Cell for u32 {
+    fn mark(i: usize) -> u32 {
+        0xa5a50000 + (i % WORK_CELLS) as u32
     }
 }
 
-pub(crate) fn mark_witness(witness: &mut [u16]) {
-    let mut i = 0;
-    while i < witness.len() {
-        witness[i] = witness_mark(i);
-        i += 1;
+impl Cell for u16 {
+    fn mark(i: usize) -> u16 {
+        0x5a00 + (i % WITNESS_CELLS) as u16
     }
 }
 
-fn zeros(work: &[u32]) -> usize {
-    let mut i = 0;
-    while i < work.len() {
-        if work[i] != 0 {
-            return i;
-        }
-        i += 1;
+// No byte of a text is so large.
+impl Cell for u8 {
+    fn mark(i: usize) -> u8 {
+        0x80 + (i % BYTE_MARKS) as u8
     }
-    i
 }
 
-// 1 if all work cells from a place on hold their marks, else 0.
-fn work_kept(work: &[u32], from: usize) -> u64 {
-    let mut i = from;
-    while i < work.len() {
-        if work[i] != work_mark(i) {
-            return 0;
-        }
-        i += 1;
+pub(crate) fn mark<C: Cell>(area: &mut [C]) {
+    for (i, cell) in area.iter_mut().enumerate() {
+        *cell = C::mark(i);
     }
-    1
 }
 
 // The cells before the first that holds its mark.
-fn written(witness: &[u16]) -> usize
-    ensures { result ≤ length witness.now }
+pub(crate) fn written<C: Cell>(area: &[C]) -> usize
+    ensures { result ≤ length area.now }
 {
-    let mut i = 0;
-    while i < witness.len() {
-        if witness[i] == witness_mark(i) {
+    for (i, cell) in area.iter().enumerate() {
+        if *cell == C::mark(i) {
             return i;
         }
-        i += 1;
     }
-    i
+    area.len()
 }
 
-// 1 if all witness cells from a place on hold their marks, else 0.
-fn witness_kept(witness: &[u16], from: usize) -> u64 {
-    let mut i = from;
-    while i < witness.len() {
-        if witness[i] != witness_mark(i) {
-            return 0;
-        }
-        i += 1;
-    }
-    1
+// Whether all cells from a place on hold their marks.
+fn is_kept<C: Cell>(area: &[C], from: usize) -> bool {
+    (from..area.len()).all(|i| area[i] == C::mark(i))
 }
 
-fn wide(cell: u16) -> u64 {
-    cell as u64
-}
-
-fn print_cells(cells: &[u16]) {
-    let mut i = 0;
-    while i < cells.len() {
-        io::print_hex(1, wide(cells[i]), 4);
-        i += 1;
-    }
-}
-
-pub(crate) fn print_work(work: &[u32]) {
-    let n = zeros(work);
+// So many cells, and whether all behind them hold their marks. Inlined, as `print_work` is: where it is called the compiler sees how long an area is at most,
+// so that a mark takes no division.
+#[inline(always)]
+pub(crate) fn print_count<C: Cell>(area: &[C], n: usize) {
     io::print_hex(1, n as u64, 8);
-    io::print_hex(1, work_kept(work, n), 2);
+    io::print_hex(1, u64::from(is_kept(area, n)), 2);
+}
+
+#[inline(always)]
+pub(crate) fn print_work(work: &[u32]) {
+    let zeros = work
+        .iter()
+        .position(|cell| *cell != 0)
+        .unwrap_or(work.len());
+    print_count(work, zeros);
 }
 
 pub(crate) fn print_witness(witness: &[u16]) {
     let n = written(witness);
-    io::print_hex(1, n as u64, 8);
-    io::print_hex(1, witness_kept(witness, n), 2);
-    print_cells(&witness[..n]);
+    print_count(witness, n);
+    for cell in &witness[..n] {
+        io::print_hex(1, u64::from(*cell), 4);
+    }
 }

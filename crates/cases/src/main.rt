@@ -1,7 +1,7 @@
 // "The rest are run and compared, also with an independent second program."
 //
-// Answers many cases in one run. Standard input is a sequence of cases, as the crate `sequences` has it. What is asked of a text is its mode, a letter,
-// and what is written for it stands in the file of that mode:
+// Answers many cases in one run. Standard input is a sequence of cases, as the crate `sequences` has it. What is asked of a text is its mode, a letter
+// (modes.rt), and what is written for it stands in the file of that mode:
 //   c  the text check (check.rt)              v  one vertex, on marked areas (vertex.rt)
 //   l  the paths of its tasks (list.rt)       t  the whole table, on a marked area (whole.rt)
 //   d  the desk's output (desk.rt)            u  the whole table, unmarked, for docs/COST.md (whole.rt)
@@ -18,7 +18,7 @@ mod desk;
 mod finishes;
 mod lent;
 mod list;
-mod numbers;
+mod modes;
 mod print;
 mod record;
 mod task;
@@ -26,92 +26,52 @@ mod vertex;
 mod whole;
 mod writing;
 
-ghost use Rattle.std.specs.Prelude.{◌≡◌, ◌≤◌, length};
-ghost use Rattle.sequences.specs.Sequence.{header_bytes};
-ghost use Rattle.cases.specs.Listing.{stretch_room};
-
+use crate::lent::Areas;
+use crate::modes::{Mode, UnknownMode};
 use crate::print::end_line;
-use sequences::{HEADER_BYTES, case_end};
+use bounds::LONGEST_OUTPUT;
+use lent::{WITNESS_CELLS, WORK_CELLS};
+use sequences::{HEADER_BYTES, Header, case_end};
 
-fn say_unknown(mode: u8) {
+fn say_unknown(letter: u8) {
     io::write_all(1, b"no such mode: ");
-    io::print_hex(1, mode as u64, 2);
+    io::print_hex(1, u64::from(letter), 2);
     end_line();
 }
 
-// The modes that write a table. Any other is none.
-fn answer_writing(header: &[u8], text: &[u8])
-    requires { length header.now ≡ header_bytes }
-{
-    let mode = header[0];
-    if mode == b'r' {
-        record::print(header, text);
-        return;
+// One case.
+fn answer(header: &Header, text: &[u8], areas: &mut Areas) {
+    match Mode::try_from(header.mode) {
+        Ok(Mode::Check) => check::print(text),
+        Ok(Mode::List) => list::print(text, &mut areas.work),
+        Ok(Mode::Desk) => desk::print(text, &mut areas.out),
+        Ok(Mode::Vertex) => vertex::print(header, text, areas),
+        Ok(Mode::Latest) => vertex::print_latest(header, text, areas),
+        Ok(Mode::Table) => whole::print_marked(header, text, &mut areas.work),
+        Ok(Mode::Unmarked) => whole::print(text, &mut areas.work),
+        Ok(Mode::Finishes) => finishes::print(text, areas),
+        Ok(Mode::Record) => record::print(header, text),
+        Ok(Mode::Back) => back::print(header, text),
+        Err(UnknownMode(letter)) => say_unknown(letter),
     }
-    if mode == b'b' {
-        back::print(header, text);
-        return;
-    }
-    say_unknown(mode);
 }
 
-// One case: its header, its text, areas for any vertex, and room for any output.
-fn answer(header: &[u8], text: &[u8], work: &mut [u32], witness: &mut [u16], out: &mut [u8])
-    requires { (length header.now ≡ header_bytes) × (stretch_room ≤ length work.old) }
-{
-    let mode = header[0];
-    if mode == b'c' {
-        check::print(text);
-        return;
-    }
-    if mode == b'l' {
-        list::print(text, work);
-        return;
-    }
-    if mode == b'd' {
-        desk::print(text, out);
-        return;
-    }
-    if mode == b'v' {
-        vertex::print(header, text, work, witness);
-        return;
-    }
-    if mode == b'f' {
-        vertex::print(header, text, work, witness);
-        return;
-    }
-    if mode == b't' {
-        whole::print_marked(header, text, work);
-        return;
-    }
-    if mode == b'u' {
-        whole::print(text, work);
-        return;
-    }
-    if mode == b'g' {
-        finishes::print(text, work, witness);
-        return;
-    }
-    answer_writing(header, text);
-}
-
-fn answer_all(bytes: &[u8], work: &mut [u32], witness: &mut [u16], out: &mut [u8])
-    requires { stretch_room ≤ length work.old }
-{
+fn answer_all(bytes: &[u8], areas: &mut Areas) {
     let mut at = 0;
-    while HEADER_BYTES <= bytes.len() - at {
-        let from = at + HEADER_BYTES;
+    while let Some(header) = Header::read(bytes, at) {
         let end = case_end(bytes, at);
-        answer(&bytes[at..from], &bytes[from..end], work, witness, out);
+        answer(&header, &bytes[at + HEADER_BYTES..end], areas);
         at = end;
     }
 }
 
 fn main() {
     let mut bytes = sequences::room();
-    let mut work = lent::work_room();
-    let mut witness = lent::witness_room();
-    let mut out = judge::output_room();
+    let mut areas = Areas {
+        work: [0; WORK_CELLS],
+        witness: [0; WITNESS_CELLS],
+        out: [0; LONGEST_OUTPUT],
+    };
     let n = io::read_full(0, &mut bytes);
-    answer_all(&bytes[..n], &mut work, &mut witness, &mut out);
+    answer_all(&bytes[..n], &mut areas);
 }

@@ -6,9 +6,8 @@ ghost use Rattle.meaning.specs.Paths.{paths_of};
 ghost use Rattle.table.specs.Inner.{task_of, HeldTask};
 ghost use Rattle.cases.specs.Listing.{Listing, stretch_room};
 
-use crate::numbers::sum;
 use crate::print::{end_line, print_number};
-use bounds::{LARGEST_D, MOST_PATHS};
+use bounds::MOST_PATHS;
 use kinds::Ticks;
 use lister::Path;
 use paths::{path_at, path_count};
@@ -20,45 +19,27 @@ const MOST_LISTED: usize = 4 * MOST_PATHS + 1;
 // So many are written.
 const MOST_WRITTEN: usize = 8;
 
-fn wide(x: u8) -> u64 {
-    x as u64
-}
-
-fn print_path(p: Path) {
-    let n = p.len;
-    let mut i: usize = 0;
-    while i < LARGEST_D {
-        if i == n {
-            break;
-        }
-        print_number(wide(p.vertices[i]), i);
-        i += 1;
+fn print_path(p: &Path) {
+    for (i, vertex) in p.vertices.iter().take(p.len).enumerate() {
+        print_number(u64::from(*vertex), i);
     }
     end_line();
 }
 
-// A cell times its place, from 1.
-fn weighed(load: u32, place: usize) -> u64
-    requires { place ≤ stretch_room }
-{
-    load as u64 * place as u64
-}
-
+// The sum doesn't get to where it stops: at most 127,000 loads of at most 1,000,000, each times at most 127,000.
 fn weigh(cells: &[u32]) -> u64
     requires { length cells.now ≤ stretch_room }
 {
     let mut total: u64 = 0;
-    let mut i: usize = 0;
-    while i < cells.len() {
-        total = sum(total, weighed(cells[i], i + 1));
-        i += 1;
+    for (i, load) in cells.iter().enumerate() {
+        total = total.saturating_add(u64::from(*load) * (i as u64 + 1));
     }
     total
 }
 
 // The task's stretch, from the front of the area; gives its number of cells.
-fn fill_stretch(work: &mut [u32], t: Task, n: usize, d: Ticks) -> usize
-    requires { Listing t n d.0 work.old }
+fn fill_stretch(work: &mut [u32], t: &Task, n: usize, d: Ticks) -> usize
+    requires { Listing t.now n d.0 work.old }
     ensures { result ≤ stretch_room }
 {
     let need = (2 * n - 1) * (d.0 as usize);
@@ -66,38 +47,32 @@ fn fill_stretch(work: &mut [u32], t: Task, n: usize, d: Ticks) -> usize
     need
 }
 
-fn print_loads(work: &mut [u32], t: Task, n: usize, d: Ticks)
-    requires { Listing t n d.0 work.old }
+fn print_loads(work: &mut [u32], t: &Task, n: usize, d: Ticks)
+    requires { Listing t.now n d.0 work.old }
 {
     let need = fill_stretch(work, t, n, d);
     print_number(weigh(&work[..need]), 0);
     end_line();
 }
 
-fn print_first(t: Task, n: usize, d: Ticks)
-    requires held_task { HeldTask t }
+fn print_first(t: &Task, n: usize, d: Ticks)
+    requires held_task { HeldTask t.now }
     requires d_nonzero { (0 < d.0) × (d.0 ≤ largest_d) }
 {
-    let mut i: usize = 0;
-    while i < n {
-        if i == MOST_WRITTEN {
-            return;
-        }
-        print_path(path_at(t, d, i));
-        i += 1;
+    for i in 0..n.min(MOST_WRITTEN) {
+        print_path(&path_at(t, d, i));
     }
 }
 
-pub(crate) fn list_task(work: &mut [u32], t: Task, d: Ticks)
-    requires held_task { HeldTask t × (0 < length (paths_of (task_of t) d.0)) }
+pub(crate) fn list_task(work: &mut [u32], t: &Task, d: Ticks)
+    requires held_task { HeldTask t.now × (0 < length (paths_of (task_of t.now) d.0)) }
     requires d_nonzero { (0 < d.0) × (d.0 ≤ largest_d) × (stretch_room ≤ length work.old) }
 {
     let n = path_count(t, d, MOST_LISTED);
     print_number(n as u64, 0);
     end_line();
     print_first(t, n, d);
-    if MOST_PATHS < n {
-        return;
+    if n <= MOST_PATHS {
+        print_loads(work, t, n, d);
     }
-    print_loads(work, t, n, d);
 }

@@ -8,19 +8,17 @@ use Rattle.meaning.specs.Text.{Reading, readable}
 use Rattle.meaning.specs.Writing.{text_of, Writing, writing, writing_by, writing_numbers, area_after}
 use Rattle.kinds.specs.declared.RefusedAt.{RefusedAt}
 use Rattle.table.specs.declared.Table as Record
-use Rattle.checks.specs.declared.Check.{Check}
-use Rattle.checks.specs.declared.Check.TheVariants.{Kept, Broken}
-use Rattle.checks.specs.Checks.{table_check}
+use Rattle.std.specs.Prelude.{Ok, Err}
+use Rattle.checks.specs.Checks.{Check, kept as no_fault, table_check}
 use Rattle.checks.proofs.InOrder.{Order, broken_apart}
 use Rattle.checks.proofs.Ruled.{unless, ruled_is}
-use Rattle.writer.specs.declared.Written.{Written}
-use Rattle.writer.specs.Written.{Writes}
+use Rattle.writer.specs.Written.{Written, Writes}
 use Rattle.cells.specs.Inner.{WrittenAlike, CellsWritten}
 
 -- the same is found in both, and where that is nothing they are one thing
 pub record Alike {X : Type 0} (check : X → Check) (a b : X) : Type 0 where
   pub same : check a ≡ check b
-  pub kept : check b ≡ Kept → a ≡ b
+  pub kept : check b ≡ no_fault → a ≡ b
 
 pub alike_self : {X : Type 0} (check : X → Check) (a : X) → Alike check a a
 alike_self check a = record { same = refl; kept = λ k. refl }
@@ -28,14 +26,14 @@ alike_self check a = record { same = refl; kept = λ k. refl }
 -- ---- parts in order
 
 module _ {S X : Type 0} (o : Order S X) (s : S) where
-  stopped : {at : RefusedAt} (x : X) (xs : List X) → o.one s x ≡ Broken at → o.all s (x ∷ xs) ≡ Broken at
+  stopped : {at : RefusedAt} (x : X) (xs : List X) → o.one s x ≡ Err at → o.all s (x ∷ xs) ≡ Err at
   stopped x xs q = o.turn s x xs ∙ rw q
 
-  passed : (x : X) (xs : List X) → o.one s x ≡ Kept → o.all s (x ∷ xs) ≡ o.all (o.next s x) xs
+  passed : (x : X) (xs : List X) → o.one s x ≡ no_fault → o.all s (x ∷ xs) ≡ o.all (o.next s x) xs
   passed x xs q = o.turn s x xs ∙ rw q
 
   -- what lies behind a part that breaks a rule plays no part
-  pub alike_cut : {at : RefusedAt} {x y : X} {xs ys : List X} → o.one s x ≡ Broken at → o.one s y ≡ Broken at
+  pub alike_cut : {at : RefusedAt} {x y : X} {xs ys : List X} → o.one s x ≡ Err at → o.one s y ≡ Err at
       → Alike (o.all s) (x ∷ xs) (y ∷ ys)
   alike_cut {at} {x} {y} {xs} {ys} p q =
       record { same = stopped x xs p ∙ sym (stopped y ys q); kept = λ k. broken_apart (sym (stopped y ys q) ∙ k) }
@@ -44,8 +42,8 @@ module _ {S X : Type 0} (o : Order S X) (s : S) where
   alike_more {x} {y} {xs} {ys} a r = go (o.one s y) refl
     where
       go : (c : Check) → o.one s y ≡ c → Alike (o.all s) (x ∷ xs) (y ∷ ys)
-      go (Broken at) q = alike_cut (a.same ∙ q) q
-      go Kept q =
+      go (Err at) q = alike_cut (a.same ∙ q) q
+      go (Ok u) q =
           let front : o.all s (x ∷ xs) ≡ o.all s (y ∷ xs) = ap (λ (z : X). o.all s (z ∷ xs)) (a.kept q) in
           record {
             same = front ∙ passed y xs q ∙ r.same ∙ sym (passed y ys q);
@@ -63,8 +61,8 @@ alike_written {us} {ts} a room =
   where
     go : (c : Check) → table_check 0 1 ts ≡ c
         → writing_by (unless (table_check 0 1 ts) (readable us)) (text_of us) room ≡ writing_by (unless (table_check 0 1 ts) (readable ts)) (text_of ts) room
-    go Kept q = ap (λ (vs : Table). writing_by (unless (table_check 0 1 ts) (readable vs)) (text_of vs) room) (a.kept q)
-    go (Broken at) q = rw q
+    go (Ok u) q = ap (λ (vs : Table). writing_by (unless (table_check 0 1 ts) (readable vs)) (text_of vs) room) (a.kept q)
+    go (Err at) q = rw q
 
 pub cells_written : (cs : List ℕ) {t : Record.Table} {before after : List ℕ} {r : Written} → WrittenAlike cs t → Writes t before r after
     → CellsWritten cs before r after

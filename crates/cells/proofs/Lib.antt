@@ -1,5 +1,6 @@
+pub mod Cursors
+pub mod Filled
 pub mod Alike
 pub mod Narrowed
-pub mod Filled
 pub mod Turns
 pub mod Laid

@@ -13,9 +13,8 @@ use Rattle.meaning.specs.Text.{within}
 use Rattle.kinds.specs.declared.Refusal.TheVariants.{OutOfBounds}
 use Rattle.rules.specs.Rules.{edge_in, least_after}
 use Rattle.rules.proofs.Within.{edge_bounds}
-use Rattle.checks.specs.declared.Check.{Check}
-use Rattle.checks.specs.declared.Check.TheVariants.{Kept, Broken}
-use Rattle.checks.specs.Checks.{broken_by, and_then, vertices_check, mask_check, edge_check, edges_check, own_check, task_check}
+use Rattle.std.specs.Prelude.{Ok, Err}
+use Rattle.checks.specs.Checks.{Check, kept as no_fault, broken_by, and_then, vertices_check, mask_check, edge_check, edges_check, own_check, task_check}
 use Rattle.checks.proofs.Parts.{edge_order}
 use Rattle.checks.proofs.InOrder.{broken_apart}
 use Rattle.checks.proofs.Ruled.{own_bounds}
@@ -65,11 +64,11 @@ module _ (vs : List Vertex) (few : length vs ≤ most_vertices) where
 
 -- ---- a task
 
-then_kept : (a b : Check) → and_then a b ≡ Kept → b ≡ Kept
-then_kept Kept b e = e
-then_kept (Broken at) b e = broken_apart e
+then_kept : (a b : Check) → and_then a b ≡ no_fault → b ≡ no_fault
+then_kept (Ok u) b e = e
+then_kept (Err at) b e = broken_apart e
 
-edges_kept : (n : ℕ) (k : Task) → task_check n k ≡ Kept → edges_check k.vertices 0 (n + length k.vertices + 1) k.edges ≡ Kept
+edges_kept : (n : ℕ) (k : Task) → task_check n k ≡ no_fault → edges_check k.vertices 0 (n + length k.vertices + 1) k.edges ≡ no_fault
 unfolding task_check
 edges_kept n k e =
     let es = edges_check k.vertices 0 (n + length k.vertices + 1) k.edges in
@@ -86,8 +85,8 @@ unfolding task_check
 task_alike n k = go (own_check n k) refl
   where
     go : (c : Check) → own_check n k ≡ c → Alike (task_check n) (narrow_task k) k
-    go (Broken at) q = record { same = rw (own_narrow n k, q); kept = λ e. broken_apart (rw q at e) }
-    go Kept q =
+    go (Err at) q = record { same = rw (own_narrow n k, q); kept = λ e. broken_apart (rw q at e) }
+    go (Ok u) q =
         let es = edges_alike k.vertices (own_bounds n k q).v_in 0 (n + length k.vertices + 1) k.edges in
         record {
           same = rw (own_narrow n k, es.same);

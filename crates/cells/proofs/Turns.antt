@@ -155,8 +155,8 @@ module _ {cs : List ℕ} {t : Table} {at : ℕ} (h : Turn cs t at) where
         after : at + cells_taken k.nv k.ne ≡ next cs at
         after = ap₂ (λ (v e : ℕ). at + cells_taken v e) r.vertex_count r.edge_count
 
-        pub turn_more : Turn cs taken (at + cells_taken k.nv k.ne)
-        turn_more =
+        turn_on : Turn cs taken (at + cells_taken k.nv k.ne)
+        turn_on =
             record {
               few = omega (arith, fewer);
               size = length-set t.tasks t.n k ∙ h.size;
@@ -170,3 +170,7 @@ module _ {cs : List ℕ} {t : Table} {at : ℕ} (h : Turn cs t at) where
                   (alike_more task_order (t.n, n) (taken_alike n)
                   (subst (λ (j : ℕ). Alike (table_check (t.n + 1) (n + lines)) xs (left cs (t.n + 1) j)) after (g (n + lines))))));
             }
+
+        -- at the next place
+        pub turn_more : {to : ℕ} → to ≡ at + cells_taken k.nv k.ne → Turn cs taken to
+        turn_more e = subst (Turn cs taken) (sym e) turn_on

@@ -9,8 +9,7 @@ use Rattle.table.specs.declared.Edge.{Edge}
 use Rattle.table.specs.declared.Task.{Task}
 use Rattle.table.specs.declared.Table.{Table}
 use Rattle.table.specs.Record.{vertices_held, edges_held, task_held, table_held}
-use Rattle.writer.specs.declared.Written.{Written}
-use Rattle.writer.specs.Written.{written_numbers}
+use Rattle.writer.specs.Written.{Written, written_numbers}
 use Rattle.cells.specs.Cells.{cell_at, vertices_from, edges_from, task_from, cells_taken, cells_table}
 
 -- ---- places

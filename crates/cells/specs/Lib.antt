@@ -1,3 +1,4 @@
 pub mod Cells
 pub mod Laid
 pub mod Inner
+pub mod Parts

@@ -21,9 +21,8 @@ use Rattle.kinds.specs.Numbers.{refusal_number}
 use Rattle.rules.specs.Rules.{task_in, vertex_in, job_in_time, edge_in, edge_spaced, edge_after, least_after}
 use Rattle.rules.proofs.Within.{TaskBounds, task_bounds, EdgeBounds, edge_bounds}
 use Rattle.rules.proofs.Order.{Follows, follows_none, follows_more}
-use Rattle.checks.specs.declared.Check.{Check}
-use Rattle.checks.specs.declared.Check.TheVariants.{Kept, Broken}
-use Rattle.checks.specs.Checks.{broken_by, and_then, vertex_check, vertices_check, mask_check, edge_check, edges_check, own_check, task_check, lines_of_task}
+use Rattle.std.specs.Prelude.{Ok, Err}
+use Rattle.checks.specs.Checks.{Check, kept, broken_by, and_then, vertex_check, vertices_check, mask_check, edge_check, edges_check, own_check, task_check, lines_of_task}
 use Rattle.checks.specs.Checks.{ninth_check, end_check, table_check}
 use Rattle.checks.proofs.InOrder.{broken_apart}
 
@@ -34,12 +33,12 @@ in_turn s n fs = frames_from some s n fs
 
 -- a reading that goes on where no rule is broken
 abbrev pub unless : Check → Reading → Reading
-unless Kept r = r
-unless (Broken at) r = unreadable (refusal_number at.refusal) at.place
+unless (Ok u) r = r
+unless (Err at) r = unreadable (refusal_number at.refusal) at.place
 
 unless_then : (a b : Check) (r : Reading) → unless (and_then a b) r ≡ unless a (unless b r)
-unless_then Kept b r = refl
-unless_then (Broken at) b r = refl
+unless_then (Ok u) b r = refl
+unless_then (Err at) b r = refl
 
 -- ---- vertices
 
@@ -60,7 +59,7 @@ module _ (ts : List Task) (m e : ℕ) where
       (gate (ltb 1 (suc v) || leb m (largest_e_in (vs ++ (x ∷ [])))) 3 (on (after_vertices (vs ++ (x ∷ [])) v))))
     where
       go : (b c : Bool) (s : Step) → frames_step some (gate b 3 (gate c 13 s)) n fs
-          ≡ unless (pick b (pick c Kept (broken_by JobOverDeadline n)) (broken_by OutOfBounds n)) (frames_step some s n fs)
+          ≡ unless (pick b (pick c kept (broken_by JobOverDeadline n)) (broken_by OutOfBounds n)) (frames_step some s n fs)
       go true true s = refl
       go true false s = refl
       go false c s = refl
@@ -71,7 +70,7 @@ module _ (ts : List Task) (m e : ℕ) where
   last_turn vs n fs = go (leb m (largest_e_in vs))
     where
       go : (b : Bool)
-          → frames_step some (gate b 3 (on (after_vertices vs 0))) n fs ≡ unless (pick b Kept (broken_by OutOfBounds n)) (in_turn (after_vertices vs 0) (suc n) fs)
+          → frames_step some (gate b 3 (on (after_vertices vs 0))) n fs ≡ unless (pick b kept (broken_by OutOfBounds n)) (in_turn (after_vertices vs 0) (suc n) fs)
       go true = refl
       go false = refl
 
@@ -84,7 +83,7 @@ module _ (ts : List Task) (m e : ℕ) where
       let b : n + 1 ≡ suc n = omega arith in
       vertex_turn vs 0 n x fs
       ∙ ap (unless (vertex_check n x)) (last_turn (vs ++ (x ∷ [])) n fs)
-      ∙ rw (a, b) (sym (unless_then (vertex_check n x) Kept (unless (mask_check n m (vs ++ (x ∷ []))) (in_turn (after_vertices (vs ++ (x ∷ [])) 0) (suc n) fs))))
+      ∙ rw (a, b) (sym (unless_then (vertex_check n x) kept (unless (mask_check n m (vs ++ (x ∷ []))) (in_turn (after_vertices (vs ++ (x ∷ [])) 0) (suc n) fs))))
   vertices_run fs (y ∷ ys) x vs n =
       let a : suc n + length ys ≡ n + suc (length ys) = omega arith in
       let b : suc n + suc (length ys) ≡ n + suc (suc (length ys)) = omega arith in
@@ -113,14 +112,14 @@ module _ (ts : List Task) (m : ℕ) (vs : List Vertex) (room : length vs ≤ mos
       done = on (after_edges (es ++ (x ∷ [])) e)
 
       last : (c : Bool) → frames_step some (gate c 5 (on (after_edges (es ++ (x ∷ [])) e))) n fs
-          ≡ unless (pick c Kept (broken_by EdgeNotAfter n)) (in_turn (after_edges (es ++ (x ∷ [])) e) (suc n) fs)
+          ≡ unless (pick c kept (broken_by EdgeNotAfter n)) (in_turn (after_edges (es ++ (x ∷ [])) e) (suc n) fs)
       last true = refl
       last false = refl
 
       go : (a : Bool) → edge_in (length vs) x.from x.to x.p ≡ a → (b c : Bool) → edge_after least x.from x.to ≡ c
           → frames_step some (gate (ltb x.from (length vs) && ltb x.to (length vs) && within 1 largest_p x.p) 3
           (gate b 4 (gate (after_last es x) 5 (on (after_edges (es ++ (x ∷ [])) e))))) n fs
-          ≡ unless (pick a (pick b (pick c Kept (broken_by EdgeNotAfter n)) (broken_by DeadlineOverSeparation n)) (broken_by OutOfBounds n))
+          ≡ unless (pick a (pick b (pick c kept (broken_by EdgeNotAfter n)) (broken_by DeadlineOverSeparation n)) (broken_by OutOfBounds n))
           (in_turn (after_edges (es ++ (x ∷ [])) e) (suc n) fs)
       go false p b c q = rw p
       go true p false c q = rw p
@@ -130,13 +129,13 @@ module _ (ts : List Task) (m : ℕ) (vs : List Vertex) (room : length vs ≤ mos
           rw (p, f) (last c)
 
   -- an edge that keeps the rules ends in the task
-  edge_to_lem : (least n : ℕ) (x : Edge) → edge_check vs least n x ≡ Kept → x.to < length vs
+  edge_to_lem : (least n : ℕ) (x : Edge) → edge_check vs least n x ≡ kept → x.to < length vs
   unfolding edge_check
   edge_to_lem least n x = go (edge_in (length vs) x.from x.to x.p) refl
     where
       go : (a : Bool) → edge_in (length vs) x.from x.to x.p ≡ a
-          → pick a (pick (edge_spaced (get_or vs x.from no_vertex).d x.p) (pick (edge_after least x.from x.to) Kept (broken_by EdgeNotAfter n))
-          (broken_by DeadlineOverSeparation n)) (broken_by OutOfBounds n) ≡ Kept → x.to < length vs
+          → pick a (pick (edge_spaced (get_or vs x.from no_vertex).d x.p) (pick (edge_after least x.from x.to) kept (broken_by EdgeNotAfter n))
+          (broken_by DeadlineOverSeparation n)) (broken_by OutOfBounds n) ≡ kept → x.to < length vs
       go true p q = (edge_bounds (length vs) x.from x.to x.p p).to_in
       go false p q = broken_apart q
 
@@ -157,16 +156,16 @@ module _ (ts : List Task) (m : ℕ) (vs : List Vertex) (room : length vs ≤ mos
           → unless (edge_check vs least n x) (in_turn (after_edges (es ++ (x ∷ [])) (length xs)) (suc n) (map frame_of_edge xs ++ fs))
           ≡ unless (and_then (edge_check vs least n x) (edges_check vs (least_after x.from x.to) (suc n) xs))
           (in_turn (after_edges (es ++ (x ∷ xs)) 0) (n + suc (length xs)) fs)
-      go (Broken at) q ih = rw q
-      go Kept q ih = rw q (ih (omega (arith, edge_to_lem least n x q)) ∙ rw (append_assoc es (x ∷ []) xs, o))
+      go (Err at) q ih = rw q
+      go (Ok u) q ih = rw q (ih (omega (arith, edge_to_lem least n x q)) ∙ rw (append_assoc es (x ∷ []) xs, o))
 
 -- ---- a whole task
 
-pub own_bounds : (n : ℕ) (k : Task) → own_check n k ≡ Kept → TaskBounds (length k.vertices) (length k.edges) 0 k.m
+pub own_bounds : (n : ℕ) (k : Task) → own_check n k ≡ kept → TaskBounds (length k.vertices) (length k.edges) 0 k.m
 unfolding own_check
 own_bounds n k = go (task_in (length k.vertices) (length k.edges) 0 k.m) refl
   where
-    go : (b : Bool) → task_in (length k.vertices) (length k.edges) 0 k.m ≡ b → pick b Kept (broken_by OutOfBounds n) ≡ Kept
+    go : (b : Bool) → task_in (length k.vertices) (length k.edges) 0 k.m ≡ b → pick b kept (broken_by OutOfBounds n) ≡ kept
         → TaskBounds (length k.vertices) (length k.edges) 0 k.m
     go true q e = task_bounds (length k.vertices) (length k.edges) 0 k.m q
     go false q e = broken_apart e
@@ -210,7 +209,7 @@ module _ (ts : List Task) (k₀ : Task) where
     where
       go : (a : Bool) → leb most_tasks (length (closed before)) ≡ a → (b : Bool) (s : Begun)
           → frames_step some (pick (ltb (length (closed before)) most_tasks) (gate b 3 (on s)) (wrong 2)) n fs
-          ≡ unless (pick a (broken_by WrongFrame n) Kept) (unless (pick b Kept (broken_by OutOfBounds n)) (in_turn s (suc n) fs))
+          ≡ unless (pick a (broken_by WrongFrame n) kept) (unless (pick b kept (broken_by OutOfBounds n)) (in_turn s (suc n) fs))
       go true p b s = rw (le-ltb (length (closed before)) most_tasks (leb-true _ _ p))
       go false p true s = rw (lt-ltb (length (closed before)) most_tasks (leb-false _ _ p))
       go false p false s = rw (lt-ltb (length (closed before)) most_tasks (leb-false _ _ p))
@@ -269,11 +268,11 @@ module _ (k : Task) (n : ℕ) where
         ∙ sym (unless_then (vertices_check (n + 1) k.vertices) (and_then mask_checked edges_checked) done
         ∙ ap (unless (vertices_check (n + 1) k.vertices)) (unless_then mask_checked edges_checked done))
 
-then_kept : (a b : Check) → and_then a b ≡ Kept → a ≡ Kept
-then_kept Kept b e = refl
-then_kept (Broken at) b e = broken_apart e
+then_kept : (a b : Check) → and_then a b ≡ kept → a ≡ kept
+then_kept (Ok u) b e = refl
+then_kept (Err at) b e = broken_apart e
 
-pub task_bounded : (n : ℕ) (k : Task) → task_check n k ≡ Kept → TaskBounds (length k.vertices) (length k.edges) 0 k.m
+pub task_bounded : (n : ℕ) (k : Task) → task_check n k ≡ kept → TaskBounds (length k.vertices) (length k.edges) 0 k.m
 unfolding task_check
 task_bounded n k e = own_bounds n k (then_kept (own_check n k) (parts_check k n) e)
 
@@ -287,8 +286,8 @@ task_run ts k₀ n k fs =
   where
     go : (us : Table) (c : Check) → own_check n k ≡ c
         → unless (own_check n k) (in_turn (begins us k) (suc n) (part_frames k ++ fs)) ≡ unless (and_then (own_check n k) (parts_check k n)) (done k n us fs)
-    go us (Broken at) q = rw q
-    go us Kept q = rw q (parts_run k n us fs (own_bounds n k q))
+    go us (Err at) q = rw q
+    go us (Ok u) q = rw q (parts_run k n us fs (own_bounds n k q))
 
 -- ---- all tasks, and the end
 
@@ -325,8 +324,8 @@ table_run (k ∷ ks) ts k₀ n =
         ≡ unless (table_check (length (closed (begun us k 0 0))) (n + lines_of_task k) ks) (readable (closed (begun us k 0 0) ++ ks)))
         → unless (task_check n k) (in_turn (begun us k 0 0) (n + lines_of_task k) (gather frames_of_task ks ++ (frame_of_end ∷ [])))
         ≡ unless (and_then (task_check n k) (table_check (length us + 1) (n + lines_of_task k) ks)) (readable (us ++ (k ∷ ks)))
-    go us (Broken at) q ih = rw q
-    go us Kept q ih =
+    go us (Err at) q ih = rw q
+    go us (Ok u) q ih =
         let c : closed (begun us k 0 0) ≡ us ++ (k ∷ []) = closed_more us k (task_bounded n k q).some in
         rw q (ih us ∙ rw (c, length-append us (k ∷ []), append_assoc us (k ∷ []) ks))
 

@@ -27,15 +27,14 @@ use Rattle.kinds.specs.Numbers.{refusal_number}
 use Rattle.rules.specs.Rules.{task_in, vertex_in, edge_in, job_in_time, edge_spaced, edge_place, edge_after, least_after}
 use Rattle.meaning.proofs.Lists.{is_true, is_false}
 use Rattle.rules.proofs.Within.{task_bounds}
-use Rattle.checks.specs.declared.Check.{Check}
-use Rattle.checks.specs.declared.Check.TheVariants.{Kept, Broken}
-use Rattle.checks.specs.Checks.{broken_by, and_then, vertex_check, vertices_check, mask_check, edge_check, edges_check, own_check, task_check, lines_of_task}
+use Rattle.std.specs.Prelude.{Ok, Err}
+use Rattle.checks.specs.Checks.{Check, kept, broken_by, and_then, vertex_check, vertices_check, mask_check, edge_check, edges_check, own_check, task_check, lines_of_task}
 use Rattle.checks.specs.Checks.{ninth_check, table_check}
 use Rattle.checks.proofs.Ruled.{unless, ruled_is}
 
 -- ---- sound, so no rule is broken
 
-vertex-kept : (n : ℕ) (x : Vertex) → SoundVertex x → vertex_check n x ≡ Kept
+vertex-kept : (n : ℕ) (x : Vertex) → SoundVertex x → vertex_check n x ≡ kept
 unfolding vertex_check vertex_in
 vertex-kept n x s =
     rw (
@@ -44,13 +43,13 @@ vertex-kept n x s =
       le-leb x.e x.d s.in_time,
     )
 
-vertices-kept : (n : ℕ) (xs : List Vertex) → ((x : Vertex) → Memᴰ x xs → SoundVertex x) → vertices_check n xs ≡ Kept
+vertices-kept : (n : ℕ) (xs : List Vertex) → ((x : Vertex) → Memᴰ x xs → SoundVertex x) → vertices_check n xs ≡ kept
 vertices-kept n [] h = refl
 vertices-kept n (x ∷ xs) h =
     rw (vertex-kept n x (h x (Memᴰ.head refl))) (vertices-kept (suc n) xs (λ y m. h y (Memᴰ.tail m)))
 
 module _ (vs : List Vertex) (room : length vs ≤ most_vertices) where
-  edge_kept : (least n : ℕ) (x : Edge) → SoundEdge vs x → least ≤ edge_place x.from x.to → edge_check vs least n x ≡ Kept
+  edge_kept : (least n : ℕ) (x : Edge) → SoundEdge vs x → least ≤ edge_place x.from x.to → edge_check vs least n x ≡ kept
   unfolding edge_check edge_in
   edge_kept least n x s h =
       rw (
@@ -66,7 +65,7 @@ module _ (vs : List Vertex) (room : length vs ≤ most_vertices) where
   place_before x y s (inr a) = omega (arith, a.0, a.1)
 
   edges_kept : (least n : ℕ) (xs : List Edge) → ((x : Edge) → Memᴰ x xs → SoundEdge vs x) → Rising EdgeBefore xs
-      → ((x : Edge) → Memᴰ x xs → least ≤ edge_place x.from x.to) → edges_check vs least n xs ≡ Kept
+      → ((x : Edge) → Memᴰ x xs → least ≤ edge_place x.from x.to) → edges_check vs least n xs ≡ kept
   edges_kept least n [] s r h = refl
   edges_kept least n (x ∷ xs) s r h =
       let m : SoundEdge vs x = s x (Memᴰ.head refl) in
@@ -74,7 +73,7 @@ module _ (vs : List Vertex) (room : length vs ≤ most_vertices) where
       (edges_kept (least_after x.from x.to) (suc n) xs (λ y k. s y (Memᴰ.tail k)) r.1 (λ y k. place_before x y m (r.0 y k)))
 
 own_kept : (n : ℕ) (k : Task) → 1 ≤ length k.vertices → length k.vertices ≤ most_vertices → length k.edges ≤ most_edges → k.m ≤ largest_m
-    → own_check n k ≡ Kept
+    → own_check n k ≡ kept
 unfolding own_check task_in
 own_kept n k a b c d =
     rw (
@@ -83,7 +82,7 @@ own_kept n k a b c d =
       within_true 0 largest_m k.m (omega arith) d,
     )
 
-pub task-kept : (n : ℕ) (k : Task) → SoundTask k → task_check n k ≡ Kept
+pub task-kept : (n : ℕ) (k : Task) → SoundTask k → task_check n k ≡ kept
 unfolding task_check mask_check
 task-kept n k s =
     rw (
@@ -93,14 +92,14 @@ task-kept n k s =
     )
     (edges_kept k.vertices s.vertex_count 0 (n + length k.vertices + 1) k.edges s.each_edge s.rising (λ x m. omega arith))
 
-tasks_kept : (i n : ℕ) (ks : Table) → AllSound ks → 1 ≤ i + length ks → i + length ks ≤ most_tasks → table_check i n ks ≡ Kept
+tasks_kept : (i n : ℕ) (ks : Table) → AllSound ks → 1 ≤ i + length ks → i + length ks ≤ most_tasks → table_check i n ks ≡ kept
 unfolding table_check
 tasks_kept i n [] s a b = rw (ne_eqb i 0 (λ e. omega arith))
 tasks_kept i n (k ∷ ks) s a b =
     rw (lt-leb most_tasks i (omega arith), task-kept n k (s k (Memᴰ.head refl)))
     (tasks_kept (i + 1) (n + lines_of_task k) ks (λ x m. s x (Memᴰ.tail m)) (omega arith) (omega arith))
 
-pub sound_kept : (ts : Table) → SoundTable ts → table_check 0 1 ts ≡ Kept
+pub sound_kept : (ts : Table) → SoundTable ts → table_check 0 1 ts ≡ kept
 sound_kept ts s = tasks_kept 0 1 ts s.each_task (omega (arith, s.some_task)) (omega (arith, s.task_count))
 
 pub sound_ruled : (ts : Table) → SoundTable ts → ruled ts ≡ readable ts
@@ -223,13 +222,13 @@ pub ruled-same : (ts us : Table) → ruled ts ≡ readable us → us ≡ ts
 ruled-same ts us e = go (table_check 0 1 ts) (sym (ruled_is ts) ∙ e)
   where
     go : (c : Check) → unless c (readable ts) ≡ readable us → us ≡ ts
-    go Kept q = cc
-    go (Broken at) q = absurd (let z : ◌≡◌ {A = ℕ} 0 1 = cc in omega arith)
+    go (Ok u) q = cc
+    go (Err at) q = absurd (let z : ◌≡◌ {A = ℕ} 0 1 = cc in omega arith)
 
 pub ruled_sound : (ts us : Table) → ruled ts ≡ readable us → SoundTable ts
 ruled_sound ts us e = subst SoundTable (ruled-same ts us e) (subst Good e (ruled_good ts))
 
-pub kept_sound : (ts : Table) → table_check 0 1 ts ≡ Kept → SoundTable ts
+pub kept_sound : (ts : Table) → table_check 0 1 ts ≡ kept → SoundTable ts
 kept_sound ts e = ruled_sound ts ts (ruled_is ts ∙ rw e)
 
 -- ---- the rows that a table can get
@@ -238,12 +237,12 @@ abbrev pub Row : ℕ → Type 0
 Row k = LineRow 2 5 k
 
 abbrev InRows : Check → Type 0
-InRows Kept = Unit {0}
-InRows (Broken at) = Row (refusal_number at.refusal)
+InRows (Ok u) = Unit {0}
+InRows (Err at) = Row (refusal_number at.refusal)
 
 then_rows : (a b : Check) → InRows a → InRows b → InRows (and_then a b)
-then_rows Kept b x y = y
-then_rows (Broken at) b x y = x
+then_rows (Ok u) b x y = y
+then_rows (Err at) b x y = x
 
 pick_rows : (c : Bool) (a b : Check) → InRows a → InRows b → InRows (pick c a b)
 pick_rows true a b x y = x
@@ -255,7 +254,7 @@ vertices_rows n [] = tt
 vertices_rows n (x ∷ xs) =
     then_rows (vertex_check n x) (vertices_check (suc n) xs)
     (pick_rows (vertex_in x.e x.d) _ (broken_by OutOfBounds n)
-    (pick_rows (job_in_time x.e x.d) Kept (broken_by JobOverDeadline n) tt (inr refl))
+    (pick_rows (job_in_time x.e x.d) kept (broken_by JobOverDeadline n) tt (inr refl))
     (inl (omega arith, omega arith)))
     (vertices_rows (suc n) xs)
 
@@ -266,7 +265,7 @@ edges_rows vs least n (x ∷ xs) =
     then_rows (edge_check vs least n x) (edges_check vs (least_after x.from x.to) (suc n) xs)
     (pick_rows (edge_in (length vs) x.from x.to x.p) _ (broken_by OutOfBounds n)
     (pick_rows (edge_spaced (get_or vs x.from no_vertex).d x.p) _ (broken_by DeadlineOverSeparation n)
-    (pick_rows (edge_after least x.from x.to) Kept (broken_by EdgeNotAfter n) tt (inl (omega arith, omega arith)))
+    (pick_rows (edge_after least x.from x.to) kept (broken_by EdgeNotAfter n) tt (inl (omega arith, omega arith)))
     (inl (omega arith, omega arith)))
     (inl (omega arith, omega arith)))
     (edges_rows vs (least_after x.from x.to) (suc n) xs)
@@ -275,17 +274,17 @@ task_rows : (n : ℕ) (k : Task) → InRows (task_check n k)
 unfolding task_check own_check mask_check
 task_rows n k =
     then_rows (own_check n k) _
-    (pick_rows (task_in (length k.vertices) (length k.edges) 0 k.m) Kept (broken_by OutOfBounds n) tt (inl (omega arith, omega arith)))
+    (pick_rows (task_in (length k.vertices) (length k.edges) 0 k.m) kept (broken_by OutOfBounds n) tt (inl (omega arith, omega arith)))
     (then_rows (vertices_check (n + 1) k.vertices) _ (vertices_rows (n + 1) k.vertices)
     (then_rows (mask_check (n + length k.vertices) k.m k.vertices) _
-    (pick_rows (leb k.m (largest_e_in k.vertices)) Kept (broken_by OutOfBounds (n + length k.vertices)) tt (inl (omega arith, omega arith)))
+    (pick_rows (leb k.m (largest_e_in k.vertices)) kept (broken_by OutOfBounds (n + length k.vertices)) tt (inl (omega arith, omega arith)))
     (edges_rows k.vertices 0 (n + length k.vertices + 1) k.edges)))
 
 table_rows : (i n : ℕ) (ks : Table) → InRows (table_check i n ks)
 unfolding table_check
-table_rows i n [] = pick_rows (eqb i 0) (broken_by WrongFrame n) Kept (inl (omega arith, omega arith)) tt
+table_rows i n [] = pick_rows (eqb i 0) (broken_by WrongFrame n) kept (inl (omega arith, omega arith)) tt
 table_rows i n (k ∷ ks) =
-    then_rows (ninth_check i n) _ (pick_rows (leb most_tasks i) (broken_by WrongFrame n) Kept (inl (omega arith, omega arith)) tt)
+    then_rows (ninth_check i n) _ (pick_rows (leb most_tasks i) (broken_by WrongFrame n) kept (inl (omega arith, omega arith)) tt)
     (then_rows (task_check n k) (table_check (i + 1) (n + lines_of_task k) ks) (task_rows n k) (table_rows (i + 1) (n + lines_of_task k) ks))
 
 frame_row : {k : ℕ} → Row k → 6 ≤ k → k ≤ 7 → ⊥
@@ -302,5 +301,5 @@ ruled_refused ts k n e =
     (row, i.1, omega (arith, l), i.2)
   where
     go : (c : Check) → InRows c → unless c (readable ts) ≡ unreadable k n → Row k
-    go Kept r q = absurd (let z : ◌≡◌ {A = ℕ} 0 1 = cc in omega arith)
-    go (Broken at) r q = subst Row (let z : refusal_number at.refusal ≡ k = cc in z) r
+    go (Ok u) r q = absurd (let z : ◌≡◌ {A = ℕ} 0 1 = cc in omega arith)
+    go (Err at) r q = subst Row (let z : refusal_number at.refusal ≡ k = cc in z) r

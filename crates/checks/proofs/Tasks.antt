@@ -1,8 +1,11 @@
 -- One task: what is found in its lines, from what its tests and the checks of its parts gave.
 use mathlib.Core.Path.{◌≡◌, refl, sym, ◌∙◌}
-use Prim.Native.Nat.{ℕ, ◌+◌}
+use Prim.Native.Nat.{ℕ, ◌+◌, ◌≤◌}
 use mathlib.Core.Bool.{Bool, true, false}
-use mathlib.Core.List.{List}
+use mathlib.Core.List.{List, map}
+use lib.ListN.{length, take}
+use lib.Seq.{take-length}
+use Rattle.std.specs.Prelude.{Err}
 use Rattle.meaning.specs.Lists.{pick}
 use Rattle.meaning.specs.Table as Meant
 use Rattle.kinds.specs.declared.RefusedAt.{RefusedAt}
@@ -10,16 +13,12 @@ use Rattle.kinds.specs.declared.Refusal.TheVariants.{OutOfBounds}
 use Rattle.rules.specs.Rules.{task_in, mask_covered}
 use Rattle.rules.proofs.Within.{TaskBounds, task_bounds}
 use Rattle.table.specs.declared.Task.{Task}
-use Rattle.table.specs.Record.{vertices_held, edges_held, task_held}
+use Rattle.table.specs.Record.{vertex_of, edge_of, task_held}
 use Rattle.table.specs.Inner.{largest_of}
-use Rattle.table.proofs.Holding.{vertices-length, edges_length, vertices-largest}
-use Rattle.checks.specs.declared.Check.{Check}
-use Rattle.checks.specs.declared.Check.TheVariants.{Kept, Broken}
-use Rattle.checks.specs.Checks.{broken_by, and_then, vertices_check, mask_check, edges_check, own_check, task_check}
+use Rattle.table.proofs.Holding.{vertices-length, edges_length}
+use Rattle.checks.specs.Checks.{Check, kept, broken_by, and_then, vertices_check, mask_check, edges_check, own_check, task_check}
 use Rattle.checks.proofs.InOrder.{broken_apart}
-
-abbrev vertices : Task → List Meant.Vertex
-vertices k = vertices_held k.vertices k.nv
+use Rattle.checks.proofs.Parts.{vertices_taken, edges_taken}
 
 abbrev pub inside : Task → Bool
 inside k = task_in k.nv k.ne 0 k.m.0
@@ -32,39 +31,54 @@ module _ (k : Task) (line : ℕ) where
   unfolding task_check own_check task_held
   task-outside q e = rw (vertices-length k.vertices k.nv, edges_length k.edges k.ne, q) e
 
-  pub task_broken : {c : Check} {at : RefusedAt} → inside k ≡ true → c ≡ vertices_check (line + 1) (vertices k) → c ≡ Broken at
-      → Broken at ≡ found
-  unfolding task_check own_check task_held
-  task_broken q f e = rw (vertices-length k.vertices k.nv, edges_length k.edges k.ne, q, sym f ∙ e)
-
   -- the counts of a task with no fault
-  pub kept_bounds : found ≡ Kept → TaskBounds k.nv k.ne 0 k.m.0
+  pub kept_bounds : found ≡ kept → TaskBounds k.nv k.ne 0 k.m.0
   kept_bounds e = go (inside k) refl
     where
       go : (b : Bool) → inside k ≡ b → TaskBounds k.nv k.ne 0 k.m.0
       go true q = task_bounds _ _ _ _ q
       go false q = broken_apart (task-outside q refl ∙ e)
 
--- its own line and its vertices' are kept, and the largest e is found
-pub record Covering (k : Task) (line largest : ℕ) : Type 0 where
+-- its own line is kept, and its parts lie in the record's cells
+pub record Counted (k : Task) : Type 0 where
   pub own : inside k ≡ true
-  pub kept : vertices_check (line + 1) (vertices_held k.vertices k.nv) ≡ Kept
-  pub is : largest ≡ largest_of k.nv k.vertices
+  pub vertices_in : k.nv ≤ length k.vertices
+  pub edges_in : k.ne ≤ length k.edges
 
-module _ {k : Task} {line largest : ℕ} (h : Covering k line largest) where
+module _ {k : Task} (h : Counted k) (line : ℕ) where
+  abbrev vertices : List Meant.Vertex
+  vertices = map vertex_of (take k.nv k.vertices)
+
+  abbrev edges : List Meant.Edge
+  edges = map edge_of (take k.ne k.edges)
+
   abbrev last : ℕ
   last = line + k.nv
 
-  abbrev behind : Check
-  behind = edges_check (vertices k) 0 (last + 1) (edges_held k.edges k.ne)
+  -- its parts decide
+  left : and_then (vertices_check (line + 1) vertices) (and_then (mask_check last k.m.0 vertices) (edges_check vertices 0 (last + 1) edges))
+      ≡ task_check line (task_held k)
+  unfolding task_check own_check task_held
+  left =
+      rw (
+        vertices-length k.vertices k.nv,
+        edges_length k.edges k.ne,
+        h.own,
+        vertices_taken k.vertices k.nv h.vertices_in,
+        edges_taken k.edges k.ne h.edges_in,
+      )
 
-  -- the masked length and the edges decide
-  left : and_then (pick (mask_covered k.m.0 largest) Kept (broken_by OutOfBounds last)) behind ≡ task_check line (task_held k)
-  unfolding task_check own_check mask_check task_held
-  left = rw (vertices-length k.vertices k.nv, edges_length k.edges k.ne, h.own, h.kept, h.is, vertices-largest k.vertices k.nv)
+  pub task_broken : {c : Check} {at : RefusedAt} → c ≡ vertices_check (line + 1) vertices → c ≡ Err at → Err at ≡ task_check line (task_held k)
+  task_broken f e = rw (sym f ∙ e) at left
 
-  pub task_uncovered : {r : Check} → mask_covered k.m.0 largest ≡ false → r ≡ broken_by OutOfBounds last → r ≡ task_check line (task_held k)
-  task_uncovered q e = rw q e ∙ left
+  module _ {c : Check} (f : c ≡ vertices_check (line + 1) vertices) (e : c ≡ kept) {largest : ℕ}
+      (is : largest ≡ largest_of (length (take k.nv k.vertices)) (take k.nv k.vertices)) where
+    covered : mask_check last k.m.0 vertices ≡ pick (mask_covered k.m.0 largest) kept (broken_by OutOfBounds last)
+    unfolding mask_check largest_of
+    covered = rw (is, take-length (take k.nv k.vertices))
 
-  pub task_covered : {r : Check} → mask_covered k.m.0 largest ≡ true → r ≡ behind → r ≡ task_check line (task_held k)
-  task_covered q e = rw q e ∙ left
+    pub task_uncovered : {r : Check} → mask_covered k.m.0 largest ≡ false → r ≡ broken_by OutOfBounds last → r ≡ task_check line (task_held k)
+    task_uncovered q d = d ∙ rw (sym f ∙ e, covered, q) at left
+
+    pub task_covered : {r : Check} → mask_covered k.m.0 largest ≡ true → r ≡ edges_check vertices 0 (last + 1) edges → r ≡ task_check line (task_held k)
+    task_covered q d = d ∙ rw (sym f ∙ e, covered, q) at left

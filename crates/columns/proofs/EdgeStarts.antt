@@ -20,6 +20,9 @@ own_none from v k j a b = absurd (omega arith)
 pub own_more : (from : List ℕ) (v k i : ℕ) → Own from v k i → get_or from i 0 ≡ v → Own from v k (i + 1)
 own_more from v k i h e j a b = elim (ℕ_discrete j i) [ yes q ↦ ap (λ (n : ℕ). get_or from n 0) q ∙ e | no q ↦ h j a (omega arith) ]
 
+pub own_to : (from : List ℕ) (v k : ℕ) {i m : ℕ} → Own from v k i → m ≤ i → Own from v k m
+own_to from v k h l j a b = h j a (omega arith)
+
 -- ---- the loop of `edge_starts`
 
 pub record Cutting (from : List ℕ) (m : ℕ) (s : List ℕ) (k v : ℕ) : Type 0 where

@@ -228,14 +228,20 @@ module _ (t : Task) (s : Ready t) where
 abbrev pub Front : Task → (Edge → ℕ) → List ℕ → ℕ → Type 0
 Front t f c k = c ≡ sets (replicate most_edges 0) 0 (take k (map f t.edges))
 
-pub front_more : (t : Task) → Ready t → (f : Edge → ℕ) (c : List ℕ) (k : ℕ) → f no_edge ≡ 0
-    → k < t.ne → Front t f c k → Front t f (set c k (f (edge_cell t k))) (k + 1)
-front_more t s f c k z h e =
-    col_more (replicate most_edges 0) c (map f t.edges) k (f (edge_cell t k)) (omega (arith, edges_in t s f)) e
-    (sym (ap (get_or (map f t.edges) k) (sym z) ∙ get_or-map f t.edges k no_edge))
+-- of the front of n edges the one at k
+pub front_more : (t : Task) → Ready t → {n : ℕ} → n ≡ t.ne → (f : Edge → ℕ) (c : List ℕ) (k : ℕ) → f no_edge ≡ 0
+    → k < length (take n t.edges) → Front t f c k → Front t f (set c k (f (get_or (take n t.edges) k no_edge))) (k + 1)
+front_more t s {n} all f c k z h e =
+    let l : length (take n t.edges) ≡ n = length-take-le n t.edges (omega (arith, s.cells_e, s.links)) in
+    col_more (replicate most_edges 0) c (map f t.edges) k (f (get_or (take n t.edges) k no_edge)) (omega (arith, edges_in t s f)) e
+    (ap f (get_or-take n t.edges k no_edge (omega arith)) ∙ sym (ap (get_or (map f t.edges) k) (sym z) ∙ get_or-map f t.edges k no_edge))
 
-pub front-all : (t : Task) (f : Edge → ℕ) (c : List ℕ) (k : ℕ) → k ≡ t.ne → Front t f c k → Column t f c
-front-all t f c k h e = e ∙ ap (λ (n : ℕ). sets (replicate most_edges 0) 0 (take n (map f t.edges))) h
+module _ (t : Task) (s : Ready t) {n : ℕ} (all : n ≡ t.ne) {k : ℕ} (low : k ≤ length (take n t.edges)) (high : length (take n t.edges) ≤ k) where
+  pub front-all : (f : Edge → ℕ) (c : List ℕ) → Front t f c k → Column t f c
+  front-all f c e =
+      let l : length (take n t.edges) ≡ n = length-take-le n t.edges (omega (arith, s.cells_e, s.links)) in
+      let whole : k ≡ t.ne = omega arith in
+      e ∙ ap (λ (m : ℕ). sets (replicate most_edges 0) 0 (take m (map f t.edges))) whole
 
 pub column_sorted : (t : Task) → Ready t → (c : List ℕ) → Column t from_in c → Sorted c t.ne
 column_sorted t s c e i j a b =

@@ -1,3 +1,4 @@
 pub mod Counting
 pub mod GoesOut
 pub mod NextPlace
+pub mod Remaining

@@ -1,40 +1,99 @@
 // "For each vertex, in rising order of task and then vertex."
 ghost use Rattle.std.specs.Prelude.{◌≡◌, ◌+◌};
+ghost use Rattle.std.specs.Iterator.{YieldsFirstBy, item_count};
+ghost use Rattle.meaning.specs.Whole.{places};
+ghost use Rattle.table.specs.Inner.{table_of, Held};
 ghost use Rattle.counts.specs.Place.{meant_place, first_place, next_place, Within};
 
 use kinds::{TaskNumber, VertexNumber};
+use std::marker::Model;
+use table::Table;
 
-#[derive(Clone, Copy)]
+#[derive(Clone, Copy, PartialEq, Eq)]
 pub struct Place {
     pub task: TaskNumber,
     pub vertex: VertexNumber,
 }
 
-pub fn first_place() -> Place
-    ensures { meant_place result ≡ first_place }
-{
-    Place {
-        task: TaskNumber(0),
-        vertex: VertexNumber(0),
+impl Place {
+    pub fn first() -> Place
+        ensures { meant_place result ≡ first_place }
+    {
+        Place {
+            task: TaskNumber(0),
+            vertex: VertexNumber(0),
+        }
+    }
+
+    // Where the present task has `size` vertices: its next one, else the next task's first.
+    pub fn next(self, size: u16) -> Place
+        requires { Within (meant_place self) }
+        ensures { meant_place result ≡ next_place size (meant_place self) }
+    {
+        let next = self.vertex.0 + 1;
+        // `as` here and below: the proofs read the number itself, and `From`'s through an equation.
+        if (next as u16) < size {
+            return Place {
+                task: self.task,
+                vertex: VertexNumber(next),
+            };
+        }
+        Place {
+            task: TaskNumber(self.task.0 + 1),
+            vertex: VertexNumber(0),
+        }
     }
 }
 
-// Where the present task has `size` vertices: its next one, else the next task's first.
-pub fn next_place(size: u16, at: Place) -> Place
-    requires { Within (meant_place at) }
-    ensures { meant_place result ≡ next_place size (meant_place at) }
-{
-    let task = at.task;
-    let next = at.vertex.0 + 1;
-    if (next as u16) < size {
-        return Place {
-            task,
-            vertex: VertexNumber(next),
-        };
+// The vertices of a table, seen as the list of those that are still to come.
+#[derive(Drop)]
+pub struct Places<'a> {
+    table: &'a Table,
+    at: Place,
+}
+
+impl<'a> Model for Places<'a> {
+    ghost use Rattle.std.specs.Prelude.{List};
+    ghost use Rattle.meaning.specs.Whole as Meant;
+
+    ghost Value = { List Meant.Place };
+
+    ghost use Rattle.table.specs.Inner.{table_of};
+    ghost use Rattle.counts.specs.Place.{meant_place};
+    ghost use Rattle.counts.specs.Places.{remaining, Reached};
+
+    ghost view = { λ s. remaining (table_of s.table.now) (meant_place s.at) };
+
+    ghost invariant = { λ s. Reached s.table.now (meant_place s.at) };
+}
+
+impl<'a> Places<'a> {
+    pub fn of(table: &'a Table) -> Places<'a>
+        requires { Held table.now }
+        ensures { result ≡ places (table_of table.now) }
+    {
+        Places {
+            table,
+            at: Place::first(),
+        }
     }
-    Place {
-        task: TaskNumber(task.0 + 1),
-        vertex: VertexNumber(0),
+}
+
+impl<'a> Iterator for Places<'a> {
+    type Item = Place;
+
+    ghost next_gives = { YieldsFirstBy meant_place (λ rest. rest) };
+
+    ghost remaining = { item_count (λ rest. rest) };
+
+    fn next(&mut self) -> Option<Place> {
+        let here = self.at;
+        let task = here.task.0 as usize;
+        if self.table.n <= task {
+            return None;
+        }
+        self.at = here.next(self.table.tasks[task].nv);
+        Some(here)
     }
 }
 

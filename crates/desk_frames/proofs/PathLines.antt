@@ -3,96 +3,74 @@ use mathlib.Core.Path.{◌≡◌, refl, sym, ap, ap₂, subst, ◌∙◌}
 use Prim.Native.Nat.{ℕ, suc, ◌+◌, ◌-◌, ◌%◌, ◌≤◌, ◌<◌}
 use native.Mathlib.Omega.{arith}
 use native.Mathlib.Numerals.{add-one}
-use native.Mathlib.Decide.{dec_lt}
 use mathlib.Core.List.{List, [], ◌∷◌, ◌++◌, append_assoc, append-nil, Memᴰ}
-use lib.ListN.{length, take, drop, get_or, length-append, length-drop, drop_of_length-le}
-use lib.Seq.{take-append_seam, drop-append_seam, drop-cons, drop-drop, length-take-le}
+use lib.ListN.{length, take, drop, get_or, length-append}
+use lib.Seq.{take-append_seam, drop-append_seam}
 use Rattle.meaning.specs.Bounds.{path_line}
 use Rattle.meaning.specs.Paths.{Path}
 use Rattle.meaning.specs.Verdict.{cells_of}
-use Rattle.meaning.specs.Areas.{Wrote}
 use Rattle.meaning.specs.Lists.{gather}
-use Rattle.meaning.specs.Text.{digits, line}
+use Rattle.meaning.specs.Text.{digits, line, line_feed}
 use Rattle.meaning.specs.Desk.{two, path_frame}
 use Rattle.meaning.proofs.TextSize.{line-length}
-use Rattle.meaning.proofs.Wrote.{wrote_none, wrote_then, wrote_length}
-use Rattle.desk_frames.specs.Lines.{FitsByte, Bytes, cell_paths, path_lines, WholePaths}
+use Rattle.meaning.proofs.Wrote.{wrote_none}
+use Rattle.put.specs.declared.Pen.{Pen}
+use Rattle.put.specs.Pens.{Penned}
+use Rattle.put.proofs.Lines.{low_size}
+use Rattle.put.proofs.Pens.{penned_then, penned_as, penned_length, penned_end}
+use Rattle.desk_frames.specs.Lines.{Bytes, cell_paths, path_lines, WholePaths}
 
 -- ---- a path's frame: its head, then its vertices
 
--- a number that fits a byte is its own remainder
-pub wrote_low : {n : ℕ} {out after : List ℕ} {at next : ℕ} → FitsByte n
-    → Wrote (digits (n % 256)) out at after next → Wrote (digits n) out at after next
-wrote_low {n} {out} {after} {at} {next} h w = let e : n % 256 ≡ n = omega arith in subst (λ (b : ℕ). Wrote (digits b) out at after next) e w
+-- vertices that fit a byte are their own low bytes
+low_vertices : (w : Path) → Bytes w → gather (λ (x : ℕ). digits (x % 256)) w ≡ gather digits w
+low_vertices [] h = refl
+low_vertices (x ∷ w) h =
+    let e : x % 256 ≡ x = omega (arith, h 0) in
+    ap₂ (λ (y : ℕ) (l : List ℕ). digits y ++ l) e (low_vertices w (λ i. h (suc i)))
 
 -- 12, task, length
-abbrev path_head : ℕ → ℕ → List ℕ
+abbrev pub path_head : ℕ → ℕ → List ℕ
 path_head i n = 18 ∷ i ∷ two n
 
-pub head_then : (i : ℕ) (w : Path) {out mid after : List ℕ} {at next last : ℕ}
-    → Wrote (gather digits (path_head i (length w))) out at mid next → Wrote (gather digits w) mid next after last
-    → Wrote (gather digits (path_frame i w)) out at after last
-head_then i w a b = wrote_then (gather digits (path_head i (length w))) (gather digits w) a b
+module _ (i : ℕ) (w : Path) {p q r : Pen} (a : Penned (gather digits (path_head i (length w))) p q)
+    (b : Penned (gather (λ (x : ℕ). digits (x % 256)) w) q r) where
+  pub feed_asks : p.at + path_line (length w) ≤ length p.out.now → r.at < length r.out.now
+  feed_asks room = omega (arith, room, penned_end a, penned_length a, penned_end b, penned_length b, low_size (λ (x : ℕ). x % 256) w)
 
--- ---- the next path of the cells
+  pub path_put : Bytes w → {s : Pen} → Penned (line_feed ∷ []) r s → Penned (line (path_frame i w)) p s
+  path_put h c =
+      penned_then (gather digits (path_frame i w)) (line_feed ∷ [])
+      (penned_then (gather digits (path_head i (length w))) (gather digits w) a (penned_as (low_vertices w h) b)) c
 
--- the path at k, as a part of the cells that ends m cells behind its length
-abbrev part : List ℕ → ℕ → ℕ → Path
-part cells k m = take (k + 1 + m - (k + 1)) (drop (k + 1) cells)
+-- ---- the next path of the cells that are left
 
--- a path at k, of which m cells are said, and n more behind it
-pub record Next (n : ℕ) (cells : List ℕ) (k m : ℕ) : Type 0 where
-  pub long : k + 1 + m ≤ length cells
-  pub bytes : Bytes (part cells k m)
-  pub on : WholePaths n (drop (k + 1 + m) cells)
-  pub is : cell_paths (suc n) (drop k cells) ≡ part cells k m ∷ cell_paths n (drop (k + 1 + m) cells)
-
-pub some_path_lem : (n : ℕ) (cells : List ℕ) (k : ℕ) → WholePaths (suc n) (drop k cells) → k < length cells
-some_path_lem n cells k w =
-    elim (dec_lt k (length cells)) [ yes h ↦ h | no h ↦ absurd (subst (WholePaths (suc n)) (drop_of_length-le cells {i = k} (omega arith)) w) ]
-
-pub next_path : (n : ℕ) (cells : List ℕ) (k : ℕ) → WholePaths (suc n) (drop k cells) → (m : ℕ) → m ≡ get_or cells k 0 → Next n cells k m
-next_path n cells k w m e =
-    let here = some_path_lem n cells k w in
-    let cut : drop k cells ≡ m ∷ drop (k + 1) cells = rw (e, add-one, drop-cons cells k 0) in
-    let behind : drop m (drop (k + 1) cells) ≡ drop (k + 1 + m) cells = drop-drop m (k + 1) cells in
-    let own : take m (drop (k + 1) cells) ≡ part cells k m = let q : m ≡ k + 1 + m - (k + 1) = omega arith in ap (λ (j : ℕ). take j (drop (k + 1) cells)) q in
-    let p = subst (WholePaths (suc n)) cut w in
-    record {
-      long = omega (arith, p.0.0, length-drop (k + 1) cells);
-      bytes = subst Bytes own p.0.1;
-      on = subst (WholePaths n) behind p.1;
-      is = ap (cell_paths (suc n)) cut ∙ ap₂ (λ (x : Path) (l : List ℕ). x ∷ cell_paths n l) own behind;
-    }
+pub some_path_lem : (n : ℕ) (rest : List ℕ) → WholePaths (suc n) rest → rest ≡ get_or rest 0 0 ∷ drop 1 rest
+some_path_lem n [] w = absurd w
+some_path_lem n (m ∷ cs) w = refl
 
 -- ---- after i of h paths
 
-pub record Pathing (h : ℕ) (cells out : List ℕ) (at : ℕ) (now : List ℕ) (next k i : ℕ) : Type 0 where
-  pub low : i ≤ h
-  pub few : FitsByte h
-  pub rest : WholePaths (h - i) (drop k cells)
+pub record Pathing (h : ℕ) (cells : List ℕ) (before now : Pen) (rest : List ℕ) (i : ℕ) : Type 0 where
+  pub rests : WholePaths (h - i) rest
   pub done : List ℕ
-  pub wrote : Wrote done out at now next
-  pub whole : path_lines 0 (cell_paths h cells) ≡ done ++ path_lines i (cell_paths (h - i) (drop k cells))
-  pub room : at + length (path_lines 0 (cell_paths h cells)) ≤ length out
-  pub same : length now ≡ length out
+  pub penned : Penned done before now
+  pub whole : path_lines 0 (cell_paths h cells) ≡ done ++ path_lines i (cell_paths (h - i) rest)
+  pub room : before.at + length (path_lines 0 (cell_paths h cells)) ≤ length before.out.now
 
-pub pathing_none : (h : ℕ) (cells out : List ℕ) (at : ℕ) → FitsByte h → WholePaths h cells → at + length (path_lines 0 (cell_paths h cells)) ≤ length out
-    → Pathing h cells out at out at 0 0
-pathing_none h cells out at f w r =
+pub pathing_none : (h : ℕ) (cells : List ℕ) (p : Pen) → WholePaths h cells → p.at + length (path_lines 0 (cell_paths h cells)) ≤ length p.out.now
+    → Pathing h cells p p cells 0
+pathing_none h cells p w r =
     let e : h ≡ h - 0 = omega arith in
     record {
-      low = omega arith;
-      few = f;
-      rest = subst (λ (n : ℕ). WholePaths n cells) e w;
+      rests = subst (λ (n : ℕ). WholePaths n cells) e w;
       done = [];
-      wrote = wrote_none out at;
+      penned = record { same_area = refl; wrote = wrote_none p.out.now p.at };
       whole = ap (λ (n : ℕ). path_lines 0 (cell_paths n cells)) e;
       room = r;
-      same = refl;
     }
 
-module _ {h : ℕ} {cells out now : List ℕ} {at next k i : ℕ} (p : Pathing h cells out at now next k i) (l : i < h) where
+module _ {h : ℕ} {cells : List ℕ} {before now : Pen} {rest : List ℕ} {i : ℕ} (p : Pathing h cells before now rest i) (l : i < h) where
   -- so many are left behind this one
   abbrev left : ℕ
   left = h - (i + 1)
@@ -100,63 +78,67 @@ module _ {h : ℕ} {cells out now : List ℕ} {at next k i : ℕ} (p : Pathing h
   one : h - i ≡ suc left
   one = omega arith
 
-  held : WholePaths (suc left) (drop k cells)
-  held = subst (λ (n : ℕ). WholePaths n (drop k cells)) one p.rest
+  held : WholePaths (suc left) rest
+  held = subst (λ (n : ℕ). WholePaths n rest) one p.rests
 
-  pub inside : k < length cells
-  inside = some_path_lem left cells k held
+  opened : rest ≡ get_or rest 0 0 ∷ drop 1 rest
+  opened = some_path_lem left rest held
 
-  module _ (m : ℕ) (e : m ≡ get_or cells k 0) where
-    pub ahead : Next left cells k m
-    ahead = next_path left cells k held m e
+  pub inside : 0 < length rest
+  inside = omega (arith, ap length opened)
 
-    own : List ℕ
-    own = line (path_frame i (part cells k m))
+  module _ (m : ℕ) (e : m ≡ get_or rest 0 0) (tail : List ℕ) (t : tail ≡ drop 1 rest) where
+    abbrev own : Path
+    own = take m tail
 
-    behind : List ℕ
-    behind = path_lines (i + 1) (cell_paths left (drop (k + 1 + m) cells))
+    abbrev behind : List ℕ
+    behind = drop m tail
 
-    splits : path_lines 0 (cell_paths h cells) ≡ (p.done ++ own) ++ behind
-    unfolding own behind
+    cut : rest ≡ m ∷ tail
+    cut = opened ∙ ap₂ (λ (n : ℕ) (ns : List ℕ). n ∷ ns) (sym e) (sym t)
+
+    next : WholePaths (suc left) (m ∷ tail)
+    next = subst (WholePaths (suc left)) cut held
+
+    pub ahead : m ≤ length tail
+    ahead = next.0.0
+
+    splits : path_lines 0 (cell_paths h cells) ≡ (p.done ++ line (path_frame i own)) ++ path_lines (i + 1) (cell_paths left behind)
     splits =
         p.whole
-        ∙ ap (λ (ws : List Path). p.done ++ path_lines i ws) (ap (λ (n : ℕ). cell_paths n (drop k cells)) one ∙ ahead.is)
-        ∙ ap (λ (n : ℕ). p.done ++ (own ++ path_lines n (cell_paths left (drop (k + 1 + m) cells)))) (sym (add-one i))
-        ∙ sym (append_assoc p.done own behind)
+        ∙ ap (λ (ws : List Path). p.done ++ path_lines i ws) (ap (λ (n : ℕ). cell_paths n rest) one ∙ ap (cell_paths (suc left)) cut)
+        ∙ ap (λ (n : ℕ). p.done ++ (line (path_frame i own) ++ path_lines n (cell_paths left behind))) (sym (add-one i))
+        ∙ sym (append_assoc p.done (line (path_frame i own)) (path_lines (i + 1) (cell_paths left behind)))
 
-    part_length : length (part cells k m) ≡ m
-    part_length =
-        let q : k + 1 + m - (k + 1) ≡ m = omega arith in
-        length-take-le (k + 1 + m - (k + 1)) (drop (k + 1) cells) (omega (arith, ahead.long, length-drop (k + 1) cells)) ∙ q
+    -- the line and what follows it have room
+    fits : length p.done + path_line (length own) ≤ length (path_lines 0 (cell_paths h cells))
+    fits =
+        rw (
+          splits,
+          length-append (p.done ++ line (path_frame i own)) (path_lines (i + 1) (cell_paths left behind)),
+          length-append p.done (line (path_frame i own)),
+        )
+        (omega (arith, line-length (path_frame i own)))
 
-    room : length p.done + path_line (length (part cells k m)) ≤ length (path_lines 0 (cell_paths h cells))
-    unfolding own
-    room = rw (splits, length-append (p.done ++ own) behind, length-append p.done own) (omega (arith, line-length (path_frame i (part cells k m))))
+    pub path_asks : (now.at + path_line (length own) ≤ length now.out.now) × Bytes own
+    path_asks = (omega (arith, fits, p.room, penned_end p.penned, penned_length p.penned), next.0.1)
 
-    pub path_asks : (next + path_line (length (part cells k m)) ≤ length now) × Bytes (part cells k m)
-    path_asks = (omega (arith, room, p.room, p.same, p.wrote.end), ahead.bytes)
-
-    pub pathing_more : {after : List ℕ} {last : ℕ} → Wrote (line (path_frame i (part cells k m))) now next after last
-        → Pathing h cells out at after last (k + 1 + m) (i + 1)
-    unfolding own behind
-    pathing_more {after} {last} w =
-        record {
-          low = omega arith;
-          few = p.few;
-          rest = ahead.on;
-          done = p.done ++ own;
-          wrote = wrote_then p.done own p.wrote w;
+    pub pathing_more : {after : Pen} (to : List ℕ) → to ≡ behind → Penned (line (path_frame i own)) now after → Pathing h cells before after to (i + 1)
+    pathing_more {after} to q w =
+        subst (λ (cs : List ℕ). Pathing h cells before after cs (i + 1)) (sym q)
+        (record {
+          rests = next.1;
+          done = p.done ++ line (path_frame i own);
+          penned = penned_then p.done (line (path_frame i own)) p.penned w;
           whole = splits;
           room = p.room;
-          same = wrote_length w ∙ p.same;
-        }
+        })
 
-pub pathing_all : {h : ℕ} {cells out now : List ℕ} {at next k i : ℕ} → Pathing h cells out at now next k i → h ≤ i
-    → Wrote (path_lines 0 (cell_paths h cells)) out at now next
-pathing_all {h} {cells} {out} {now} {at} {next} {k} {i} p l =
+pub pathing_all : {h : ℕ} {cells : List ℕ} {before now : Pen} {rest : List ℕ} {i : ℕ} → Pathing h cells before now rest i → h ≤ i
+    → Penned (path_lines 0 (cell_paths h cells)) before now
+pathing_all {h} {rest = rest} {i = i} p l =
     let none : h - i ≡ 0 = omega arith in
-    let all = p.whole ∙ ap (λ (n : ℕ). p.done ++ path_lines i (cell_paths n (drop k cells))) none ∙ append-nil p.done in
-    subst (λ (bs : List ℕ). Wrote bs out at now next) (sym all) p.wrote
+    penned_as (sym (p.whole ∙ ap (λ (n : ℕ). p.done ++ path_lines i (cell_paths n rest)) none ∙ append-nil p.done)) p.penned
 
 -- ---- the cells of a miss hold its paths
 

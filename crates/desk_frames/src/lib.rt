@@ -1,7 +1,7 @@
 // "Output is frames: 10, task, vertex, verdict, 4 bytes count (or refusal number) [..]; after a miss, one frame a higher task: [..] task, length, vertices;
 // last 1f and the four counts. A refused text or input gives only 1e, number, line in 2 bytes." By wish 7 a path's frame is 12, its length in 2 bytes.
 //
-// Each function writes lines into a lent area, from a place on, and gives the place behind them.
+// Each function writes its lines with a lent pen.
 #![tactic(auto)]
 
 mod path;
@@ -11,88 +11,79 @@ ghost use Rattle.meaning.specs.Bounds.{verdict_line, counts_line, refusal_line};
 ghost use Rattle.meaning.specs.Text.{line};
 ghost use Rattle.meaning.specs.Desk.{counts_frame, refusal_frame};
 ghost use Rattle.kinds.specs.Numbers.{refusal_number};
+ghost use Rattle.counts.specs.Counts.{meant_counts};
+ghost use Rattle.put.specs.Pens.{Penned};
 ghost use Rattle.desk_frames.specs.Lines.{WholeShown, place_of, shown_verdict, shown_lines};
-ghost use Rattle.meaning.specs.Areas.{Wrote};
 
+use counts::Counts;
 use kinds::{RefusedAt, TaskNumber, Verdict, VertexNumber};
 use path::path_lines;
-use put::put_line;
+use put::Pen;
+
+// The first byte of each frame; that of a path stands in path.rt.
+const VERDICT_FRAME: u8 = 16;
+
+const REFUSAL_FRAME: u8 = 30;
+
+const COUNTS_FRAME: u8 = 31;
 
 // A vertex's verdict, and after a miss one path a higher task, out of the witness area's cells.
 pub fn vertex_lines(
-    out: &mut [u8],
-    at: usize,
+    pen: &mut Pen,
     task: TaskNumber,
     vertex: VertexNumber,
     verdict: Verdict,
     cells: &[u16],
-) -> usize
-    requires { WholeShown verdict task.0 cells.now × (at + length (shown_lines (place_of task vertex) verdict cells.now) ≤ length out.old) }
-    ensures { Wrote (shown_lines (place_of task vertex) verdict cells.now) out.old at out.new result }
+)
+    requires { WholeShown verdict task.0 cells.now × (pen.old.at + length (shown_lines (place_of task vertex) verdict cells.now) ≤ length pen.old.out.now) }
+    ensures { Penned (shown_lines (place_of task vertex) verdict cells.now) pen.old pen.new }
 {
-    let next = verdict_line(out, at, task, vertex, verdict);
-    match verdict {
-        Verdict::Meets(_) => next,
-        Verdict::Misses(_, _) => path_lines(out, next, cells, task.0 as usize),
-        Verdict::Unfinished(_) => next,
-        Verdict::Refused(_) => next,
+    verdict_line(pen, task, vertex, verdict);
+    if let Verdict::Misses(_, _) = verdict {
+        path_lines(pen, cells, task.0);
     }
 }
 
-fn verdict_line(
-    out: &mut [u8],
-    at: usize,
-    task: TaskNumber,
-    vertex: VertexNumber,
-    verdict: Verdict,
-) -> usize
-    requires { at + verdict_line ≤ length out.old }
-    ensures { Wrote (shown_verdict (place_of task vertex) verdict) out.old at out.new result }
+fn verdict_line(pen: &mut Pen, task: TaskNumber, vertex: VertexNumber, verdict: Verdict)
+    requires { pen.old.at + verdict_line ≤ length pen.old.out.now }
+    ensures { Penned (shown_verdict (place_of task vertex) verdict) pen.old pen.new }
 {
-    let kind = kinds::verdict_number(verdict);
-    let count = kinds::verdict_value(verdict);
-    let high = count / 65536;
+    let kind = verdict.number();
+    let [first, second, third, last] = verdict.value().to_be_bytes();
     let frame = [
-        16u8,
+        VERDICT_FRAME,
         task.0,
         vertex.0,
         kind,
-        (high / 256 % 256) as u8,
-        (high % 256) as u8,
-        (count / 256 % 256) as u8,
-        (count % 256) as u8,
+        first,
+        second,
+        third,
+        last,
     ];
-    put_line(out, at, &frame)
+    pen.line(&frame);
 }
 
-// The four counts.
-pub fn counts_line(
-    out: &mut [u8],
-    at: usize,
-    meeting: u8,
-    missing: u8,
-    unfinishing: u8,
-    refusing: u8,
-) -> usize
-    requires { at + counts_line ≤ length out.old }
-    ensures { Wrote (line (counts_frame (record { meeting = meeting; missing = missing; unfinishing = unfinishing; refusing = refusing }))) out.old at out.new result }
+pub fn counts_line(pen: &mut Pen, counts: Counts)
+    requires { pen.old.at + counts_line ≤ length pen.old.out.now }
+    ensures { Penned (line (counts_frame (meant_counts counts))) pen.old pen.new }
 {
-    let frame = [31u8, meeting, missing, unfinishing, refusing];
-    put_line(out, at, &frame)
+    let Counts {
+        meeting,
+        missing,
+        unfinishing,
+        refusing,
+    } = counts;
+    let frame = [COUNTS_FRAME, meeting, missing, unfinishing, refusing];
+    pen.line(&frame);
 }
 
 // A refused text or input.
-pub fn refusal_line(out: &mut [u8], at: usize, refused: RefusedAt) -> usize
-    requires { at + refusal_line ≤ length out.old }
-    ensures { Wrote (line (refusal_frame (refusal_number refused.refusal) refused.place)) out.old at out.new result }
+pub fn refusal_line(pen: &mut Pen, refused: RefusedAt)
+    requires { pen.old.at + refusal_line ≤ length pen.old.out.now }
+    ensures { Penned (line (refusal_frame (refusal_number refused.refusal) refused.place)) pen.old pen.new }
 {
-    let refusal = refused.refusal;
-    let place = refused.place;
-    let frame = [
-        30u8,
-        kinds::refusal_number(refusal),
-        (place / 256 % 256) as u8,
-        (place % 256) as u8,
-    ];
-    put_line(out, at, &frame)
+    let number = refused.refusal.number();
+    let [_, _, high, low] = refused.place.to_be_bytes();
+    let frame = [REFUSAL_FRAME, number, high, low];
+    pen.line(&frame);
 }

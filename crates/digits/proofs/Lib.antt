@@ -1,4 +1,4 @@
-pub mod Digits
+pub mod Worths
 pub mod Spelled
 pub mod Pairs
 pub mod Counting

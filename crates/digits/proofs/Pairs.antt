@@ -6,7 +6,7 @@ use mathlib.Core.List.{List, [], ◌∷◌}
 use lib.ListN.{length, get_or, drop}
 use Rattle.meaning.specs.Text.{line_feed}
 use Rattle.digits.specs.Digits.{foreign_worth, worth_of, pair_at}
-use Rattle.digits.proofs.Digits.{below_foreign}
+use Rattle.digits.proofs.Worths.{below_foreign}
 use Rattle.digits.proofs.Spelled.{Spelled, feed, pair}
 
 -- m bytes from place i on

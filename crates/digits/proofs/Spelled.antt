@@ -11,7 +11,7 @@ use borrow.Author.Tests.{ltb-true, ltb-false, lt-ltb, eqb-true}
 use Rattle.meaning.specs.Lists.{pick}
 use Rattle.meaning.specs.Text.{Line, line_feed, into_first, lines_of, digit_of, byte_with, hex_bytes, frame_of}
 use Rattle.digits.specs.Digits.{worth_of, frame_at}
-use Rattle.digits.proofs.Digits.{not_feed, digit_some, digit-none}
+use Rattle.digits.proofs.Worths.{not_feed, digit_some, digit-none}
 
 -- the text t starts with a right line of the bytes f, and r is left behind it
 pub data Spelled : List ℕ → List ℕ → List ℕ → Type 0 where

@@ -1,5 +1,6 @@
 -- Digits by their worth, and the numbers that stand at a place of a text.
-use Rattle.std.specs.Prelude.{◌≡◌, ℕ, ◌+◌, ◌-◌, ◌*◌, ◌≤◌, ◌<◌, List, [], ◌∷◌, length, get_or, leb, ltb, eqb}
+use Rattle.std.specs.Prelude.{◌≡◌, ℕ, zero, suc, ◌+◌, ◌-◌, ◌*◌, ◌≤◌, ◌<◌, List, [], ◌∷◌, length, get_or, leb, ltb, eqb, Some, None}
+use Rattle.std.specs.Prelude as Std
 use Rattle.std.proofs.Math.Option.{Option, none, some}
 use Rattle.meaning.specs.Lists.{pick}
 use Rattle.meaning.specs.Bounds.{most_vertices, most_edges, largest_e, largest_d, largest_p, largest_m}
@@ -52,3 +53,8 @@ frame_at (a ∷ b ∷ t) = pick (eqb a line_feed) (some []) (byte_with (digit_of
 abbrev pub digit_count : ℕ → Option (List ℕ) → ℕ
 digit_count i none = 0
 digit_count i (some f) = i + 2 * length f
+
+-- that number, where there is such a line
+abbrev pub some_digits : ℕ → Std.Option ℕ
+some_digits zero = None
+some_digits (suc n) = Some (suc n)

@@ -6,18 +6,16 @@ use mathlib.Core.Bool.{Bool, true, false}
 use mathlib.Core.List.{List, [], ◌∷◌, ◌++◌, map}
 use lib.ListN.{length, length-map, get_or, drop}
 use borrow.Author.Tests.{eq-eqb}
+use Rattle.std.specs.Prelude.{Result, Ok, Err}
 use Rattle.meaning.specs.Bounds.{most_vertices}
 use Rattle.meaning.specs.Table as Meant
-use Rattle.meaning.specs.Text.{lines_of, Begun, begun, on, wrong, is_frame, word, gate, edge_frame, after_last, Reading, unreadable, read_from}
+use Rattle.meaning.specs.Text.{lines_of, Begun, begun, on, wrong, is_frame, word, gate, edge_frame, after_last, Reading, read_from}
 use Rattle.kinds.specs.declared.Refusal.{Refusal}
 use Rattle.kinds.specs.declared.Refusal.TheVariants.{WrongFrame, OutOfBounds}
-use Rattle.kinds.specs.Numbers.{refusal_number}
 use Rattle.table.specs.declared.Vertex.{Vertex}
 use Rattle.table.specs.declared.Edge.{Edge}
 use Rattle.table.specs.Record.{no_vertex, vertex_record, edge_of}
 use Rattle.table.specs.Inner.{edge_cells, vertices_record}
-use Rattle.frames.specs.declared.EdgeLine.{EdgeLine}
-use Rattle.frames.specs.declared.EdgeLine.TheVariants.{EdgeTaken, EdgeRefused}
 use Rattle.digits.specs.Digits.{worth_of, pair_at}
 use Rattle.meaning.proofs.Lists.{get_or_mapped}
 use Rattle.meaning.proofs.Readable.{read_step}
@@ -26,10 +24,10 @@ use Rattle.rules.specs.Rules.{edge_in, edge_spaced, edge_after}
 use Rattle.frames.specs.Frames.{part_digits, part_bytes, starts_with, edge_from, edge_to, edge_p, edge_line}
 use Rattle.digits.proofs.Spelled.{Spelled}
 use Rattle.digits.proofs.Pairs.{spelled_of}
-use Rattle.digits.proofs.Digits.{foreign_above}
+use Rattle.digits.proofs.Worths.{foreign_above}
 use Rattle.rules.proofs.Order.{Follows}
 use Rattle.rules.proofs.Within.{edge_bounds}
-use Rattle.frames.proofs.LineRead.{right-read}
+use Rattle.frames.proofs.LineRead.{gives, right-read}
 use Rattle.frames.proofs.Expected.{same-pick, fault_law, Starts, starts_says, framed-bytes, not_frame, fails}
 
 -- d of a vertex, in its cell
@@ -38,11 +36,6 @@ start_d X i h =
     ap (λ (x : Vertex). x.d.0)
     (get_or-padded most_vertices no_vertex no_vertex (map vertex_record X) i (omega (arith, length-map X vertex_record))
     ∙ get_or_mapped vertex_record no_vertex Meant.no_vertex X i h)
-
--- what becomes of the reading with an edge's line
-abbrev pub edge_gives : EdgeLine → ℕ → (Edge → Reading) → Reading
-edge_gives (EdgeTaken x) n go = go x
-edge_gives (EdgeRefused w) n go = unreadable (refusal_number w) n
 
 module _ (ts : List Meant.Task) (m : ℕ) (X : List Meant.Vertex) (E : List Meant.Edge) (k n least : ℕ) (t : List ℕ)
     (room : length X ≤ most_vertices) (follows : Follows E least)
@@ -87,12 +80,12 @@ module _ (ts : List Meant.Task) (m : ℕ) (X : List Meant.Vertex) (E : List Mean
         let a : after_last E edge ≡ after = follows (edge_from t) (edge_to t) (edge_p t) (omega arith) in
         right-read before n z ∙ simp (eq-eqb (pair_at t 0) 3 c, q, o, d, a)
 
-    pub edge-read : read_from before n (lines_of t) ≡ edge_gives (edge_line (length X) (vertices_record X) least t) n behind
+    pub edge-read : read_from before n (lines_of t) ≡ gives (edge_line (length X) (vertices_record X) least t) n behind
     unfolding edge_line
     edge-read = go (starts_with t 51 part_digits) refl inside refl spaced refl after refl
       where
         go : (x : Bool) → starts_with t 51 part_digits ≡ x → (y : Bool) → inside ≡ y → (u : Bool) → spaced ≡ u → (v : Bool) → after ≡ v
-            → read_from before n (lines_of t) ≡ edge_gives (edge_line (length X) (vertices_record X) least t) n behind
+            → read_from before n (lines_of t) ≡ gives (edge_line (length X) (vertices_record X) least t) n behind
         go false p y q u g v h = simp p (fault_law before n part_digits WrongFrame t (λ b f r z. simp (not_frame 3 (omega arith) 5 z p, same-pick)))
         go true p false q u g v h =
             simp (p, q) (fault_law before n part_digits OutOfBounds t (λ b f r z.
@@ -121,22 +114,22 @@ module _ (n : ℕ) (vs : List Vertex) (least : ℕ) (t : List ℕ) (x : Edge) wh
   abbrev cells : Edge
   cells = edge_cells (edge_from t) (edge_to t) (edge_p t)
 
-  pub edge_has : edge_line n vs least t ≡ EdgeTaken x → EdgeHas n t x
+  pub edge_has : edge_line n vs least t ≡ Ok x → EdgeHas n t x
   unfolding edge_line
   edge_has = go (starts_with t 51 part_digits) refl within refl apart refl next refl
     where
-      refused : {A : Type 0} {w : Refusal} → EdgeRefused w ≡ EdgeTaken x → A
+      refused : {A : Type 0} {w : Refusal} → ◌≡◌ {A = Result Edge Refusal} (Err w) (Ok x) → A
       refused e = absurd (let k : ◌≡◌ {A = ℕ} 0 1 = cc in omega arith)
 
       go : (a : Bool) → starts_with t 51 part_digits ≡ a → (b : Bool) → within ≡ b → (u : Bool) → apart ≡ u → (v : Bool) → next ≡ v
-          → edge_line n vs least t ≡ EdgeTaken x → EdgeHas n t x
+          → edge_line n vs least t ≡ Ok x → EdgeHas n t x
       go false p b q u g v h e = refused (simp p at e)
       go true p false q u g v h e = refused (simp (p, q) at e)
       go true p true q false g v h e = refused (simp (p, q, g) at e)
       go true p true q true g false h e = refused (simp (p, q, g, h) at e)
       go true p true q true g true h e =
           let m = edge_bounds n (edge_from t) (edge_to t) (edge_p t) q in
-          let f : EdgeTaken cells ≡ EdgeTaken x = simp (p, q, g, h) at e in
+          let f : ◌≡◌ {A = Result Edge Refusal} (Ok cells) (Ok x) = simp (p, q, g, h) at e in
           let y : cells ≡ x = cc in
           record {
             long = (starts_says t 51 part_digits p).long;

@@ -16,7 +16,7 @@ use Rattle.kinds.specs.declared.Refusal.TheVariants.{WrongFrame}
 use Rattle.kinds.specs.Numbers.{refusal_number}
 use Rattle.digits.specs.Digits.{digit_count}
 use Rattle.frames.specs.Frames.{fault_of, starts_with}
-use Rattle.digits.proofs.Digits.{is_low, worth_low}
+use Rattle.digits.proofs.Worths.{is_low, worth_low}
 use Rattle.digits.proofs.Spelled.{non_empty, Spelled, pair, frame_right, First, right, broken, first}
 use Rattle.digits.proofs.Pairs.{pairs_at, bytes_of}
 use Rattle.rules.proofs.Within.{differ, both_true}

@@ -3,10 +3,18 @@ use mathlib.Core.Path.{◌≡◌, ap, ◌∙◌}
 use Prim.Native.Nat.{ℕ, ◌+◌, ◌*◌}
 use mathlib.Core.Option.{Option, none}
 use mathlib.Core.List.{List, ◌∷◌}
-use Rattle.meaning.specs.Text.{Line, lines_of, Begun, framed, step_at, unreadable, read_from}
+use Rattle.std.specs.Prelude.{Result, Ok, Err}
+use Rattle.kinds.specs.declared.Refusal.{Refusal}
+use Rattle.kinds.specs.Numbers.{refusal_number}
+use Rattle.meaning.specs.Text.{Line, lines_of, Begun, framed, step_at, Reading, unreadable, read_from}
 use Rattle.meaning.proofs.Readable.{read_step, step_read}
 use Rattle.digits.specs.Digits.{worth_of, frame_at}
 use Rattle.digits.proofs.Spelled.{non_empty, Spelled, pair, frame_right, head_of, tail_of, some_lines, first_frame, tail_right}
+
+-- what becomes of the reading at line n with what its frame gives
+abbrev pub gives : {A : Type 0} → Result A Refusal → ℕ → (A → Reading) → Reading
+gives (Ok x) n go = go x
+gives (Err w) n go = unreadable (refusal_number w) n
 
 line_read : (s : Begun) (n a : ℕ) (t : List ℕ)
     → read_from s n (lines_of (a ∷ t)) ≡ read_step (step_at s (non_empty (frame_at (a ∷ t)))) n (tail_of (lines_of (a ∷ t)))

@@ -7,6 +7,7 @@ use mathlib.Core.List.{List, [], ◌∷◌}
 use lib.ListN.{length, get_or, drop}
 use lib.Dec.{leb, ltb, eqb}
 use borrow.Author.Tests.{leb-true, leb-false, le-leb, eqb-true, eqb-false, lt-ltb, le-ltb, eq-eqb, ne_eqb}
+use Rattle.std.specs.Prelude.{Option, Some, None, Result, Ok, Err}
 use Rattle.meaning.specs.Lists.{pick}
 use Rattle.meaning.specs.Bounds.{most_tasks, most_vertices, most_edges, largest_m}
 use Rattle.meaning.specs.Table as Meant
@@ -14,20 +15,19 @@ use Rattle.meaning.specs.Text.{lines_of, Begun, begun, linked, closed, Step, on,
 use Rattle.meaning.specs.Text.{vendor_frame, framed, Reading, unreadable, at_end, read_from}
 use Rattle.meaning.proofs.Lists.{and_false}
 use Rattle.meaning.proofs.Readable.{read_step}
+use Rattle.kinds.specs.declared.Refusal.{Refusal}
 use Rattle.kinds.specs.declared.Refusal.TheVariants.{WrongFrame, OutOfBounds}
 use Rattle.kinds.specs.Numbers.{refusal_number}
 use Rattle.frames.specs.declared.Form.{Form}
 use Rattle.frames.specs.declared.Form.TheVariants.{Plain, Ring, Gears}
 use Rattle.frames.specs.declared.Head.{Head}
-use Rattle.frames.specs.declared.TaskOrEndLine.{TaskOrEndLine}
-use Rattle.frames.specs.declared.TaskOrEndLine.TheVariants.{TaskTaken, EndTaken, FrameRefused}
 use Rattle.digits.specs.Digits.{worth_of, pair_at}
 use Rattle.rules.specs.Rules.{task_in}
 use Rattle.frames.specs.Frames.{task_digits, part_digits, part_bytes, task_bytes, end_digits, end_bytes, fault_of, starts_with, end_line, task_vertices, task_edges}
 use Rattle.frames.specs.Frames.{task_mask, linked_digits, linked_bytes, form_bytes, head_bytes, head_with, head_line, task_line, linked_line, task_or_end_line}
 use Rattle.digits.proofs.Spelled.{Spelled}
 use Rattle.digits.proofs.Pairs.{pairs_at, spelled_of}
-use Rattle.digits.proofs.Digits.{foreign_above, worth_low}
+use Rattle.digits.proofs.Worths.{foreign_above, worth_low}
 use Rattle.rules.proofs.Within.{differ, within_bounds, task_bounds}
 use Rattle.frames.proofs.LineRead.{right-read}
 use Rattle.frames.proofs.Expected.{same-pick, fault_law, Starts, starts_says, framed-bytes, kind_of_lem, not_frame, fails}
@@ -46,10 +46,10 @@ abbrev pub opened : List Meant.Task → Head → Begun
 opened ts h = opened_as h.form ts h.v h.e h.m.0
 
 -- what becomes of the reading with such a line
-abbrev pub frame_gives : TaskOrEndLine → ℕ → (Head → Reading) → Reading → Reading
-frame_gives (TaskTaken h) n go end = go h
-frame_gives EndTaken n go end = end
-frame_gives (FrameRefused w) n go end = unreadable (refusal_number w) n
+abbrev pub frame_gives : Result (Option Head) Refusal → ℕ → (Head → Reading) → Reading → Reading
+frame_gives (Ok (Some h)) n go end = go h
+frame_gives (Ok None) n go end = end
+frame_gives (Err w) n go end = unreadable (refusal_number w) n
 
 -- the bytes of a plain task's line
 pub bytes_01 : task_bytes 0 ≡ task_digits + 1
@@ -86,7 +86,7 @@ module _ (ts : List Meant.Task) (k : Meant.Task) (n : ℕ) (t : List ℕ) where
   abbrev few : Bool
   few = leb most_tasks (length have)
 
-  abbrev Gives : TaskOrEndLine → Type 0
+  abbrev Gives : Result (Option Head) Refusal → Type 0
   Gives x = read_from before n (lines_of t) ≡ frame_gives x n behind ending
 
   -- a line with a frame of len bytes that starts as a task's of this kind, and says h if `inside`: `step` for its frame, where one more task is allowed
@@ -266,35 +266,35 @@ pub record TaskHas (k : ℕ) (h : Head) (t : List ℕ) : Type 0 where
   pub fits : k < most_tasks
 
 -- what kind of a line it is
-abbrev is_task : TaskOrEndLine → Bool
-is_task (TaskTaken h) = true
-is_task EndTaken = false
-is_task (FrameRefused w) = false
+abbrev is_task : Result (Option Head) Refusal → Bool
+is_task (Ok (Some h)) = true
+is_task (Ok None) = false
+is_task (Err w) = false
 
-abbrev is_end : TaskOrEndLine → Bool
-is_end (TaskTaken h) = false
-is_end EndTaken = true
-is_end (FrameRefused w) = false
+abbrev is_end : Result (Option Head) Refusal → Bool
+is_end (Ok (Some h)) = false
+is_end (Ok None) = true
+is_end (Err w) = false
 
-none_is : {A : Type 0} (f : TaskOrEndLine → Bool) {x y : TaskOrEndLine} → x ≡ y → f x ≡ false → f y ≡ true → A
+none_is : {A : Type 0} (f : Result (Option Head) Refusal → Bool) {x y : Result (Option Head) Refusal} → x ≡ y → f x ≡ false → f y ≡ true → A
 none_is f q a b = differ (sym b ∙ sym (ap f q) ∙ a)
 
 module _ (k : ℕ) (t : List ℕ) where
-  head_has : (n : ℕ) (b : Bool) (g h : Head) → (b ≡ true → HeadIn g t) → head_line k n b g t ≡ TaskTaken h → TaskHas k h t
+  head_has : (n : ℕ) (b : Bool) (g h : Head) → (b ≡ true → HeadIn g t) → head_line k n b g t ≡ Ok (Some h) → TaskHas k h t
   head_has n b g h has = go (leb most_tasks k) refl b refl
     where
-      go : (y : Bool) → leb most_tasks k ≡ y → (c : Bool) → b ≡ c → head_line k n b g t ≡ TaskTaken h → TaskHas k h t
+      go : (y : Bool) → leb most_tasks k ≡ y → (c : Bool) → b ≡ c → head_line k n b g t ≡ Ok (Some h) → TaskHas k h t
       go true q c u e = none_is is_task (simp q at e) refl refl
       go false q false u e = none_is is_task (simp (q, u) at e) refl refl
       go false q true u e =
-          let x : TaskTaken g ≡ TaskTaken h = simp (q, u) at e in
+          let x : ◌≡◌ {A = Result (Option Head) Refusal} (Ok (Some g)) (Ok (Some h)) = simp (q, u) at e in
           let y : g ≡ h = cc in
           record { inside = subst (λ (z : Head). HeadIn z t) y (has u); fits = leb-false most_tasks k q }
 
   head_no_end : (n : ℕ) (b : Bool) (g : Head) → is_end (head_line k n b g t) ≡ false
   head_no_end n b g = go (leb most_tasks k) b
     where
-      go : (y c : Bool) → is_end (pick y (FrameRefused (fault_of t n WrongFrame)) (pick c (TaskTaken g) (FrameRefused (fault_of t n OutOfBounds)))) ≡ false
+      go : (y c : Bool) → is_end (pick y (Err (fault_of t n WrongFrame)) (pick c (Ok (Some g)) (Err (fault_of t n OutOfBounds)))) ≡ false
       go true c = refl
       go false true = refl
       go false false = refl
@@ -329,13 +329,13 @@ module _ (k : ℕ) (t : List ℕ) where
       let b = task_bounds (task_vertices t) (task_vertices t) 0 0 q in
       record { long = long; some = b.some; v_in = b.v_in; e_in = b.e_in; m_in = b.m_in }
 
-  pub task_has : (h : Head) → task_or_end_line k t ≡ TaskTaken h → TaskHas k h t
+  pub task_has : (h : Head) → task_or_end_line k t ≡ Ok (Some h) → TaskHas k h t
   unfolding task_or_end_line task_line linked_line
   task_has h =
       go (starts_with t 49 task_digits) refl (starts_with t 52 part_digits) refl (starts_with t 53 linked_digits) refl (starts_with t 55 linked_digits) refl
     where
       go : (x : Bool) → starts_with t 49 task_digits ≡ x → (y : Bool) → starts_with t 52 part_digits ≡ y → (u : Bool) → starts_with t 53 linked_digits ≡ u
-          → (w : Bool) → starts_with t 55 linked_digits ≡ w → task_or_end_line k t ≡ TaskTaken h → TaskHas k h t
+          → (w : Bool) → starts_with t 55 linked_digits ≡ w → task_or_end_line k t ≡ Ok (Some h) → TaskHas k h t
       go true o y p u r w s e =
           head_has task_digits _ _ h (plain_in 0 0 (λ l. omega (arith, bytes_01, (starts_says t 49 task_digits o).long))) (simp o at e)
       go false o true p u r w s e =
@@ -347,22 +347,22 @@ module _ (k : ℕ) (t : List ℕ) where
           head_has linked_digits _ _ h (linked_in_head Gears (omega (arith, (starts_says t 55 linked_digits s).long))) (simp (o, p, r, s) at e)
       go false o false p false r false s e = none_is is_task (simp (o, p, r, s) at e) end_no_task refl
 
-  end_has : end_line k t ≡ EndTaken → end_digits < length t
+  end_has : end_line k t ≡ Ok None → end_digits < length t
   unfolding end_line
   end_has = go (starts_with t 48 end_digits) refl
     where
-      go : (a : Bool) → starts_with t 48 end_digits ≡ a → end_line k t ≡ EndTaken → end_digits < length t
+      go : (a : Bool) → starts_with t 48 end_digits ≡ a → end_line k t ≡ Ok None → end_digits < length t
       go true p e = (starts_says t 48 end_digits p).long
       go false p e = none_is is_end (simp p at e) refl refl
 
   -- the end's line has two digits and a line feed
-  pub end_long : task_or_end_line k t ≡ EndTaken → end_digits < length t
+  pub end_long : task_or_end_line k t ≡ Ok None → end_digits < length t
   unfolding task_or_end_line
   end_long =
       go (starts_with t 49 task_digits) refl (starts_with t 52 part_digits) refl (starts_with t 53 linked_digits) refl (starts_with t 55 linked_digits) refl
     where
       go : (x : Bool) → starts_with t 49 task_digits ≡ x → (y : Bool) → starts_with t 52 part_digits ≡ y → (u : Bool) → starts_with t 53 linked_digits ≡ u
-          → (w : Bool) → starts_with t 55 linked_digits ≡ w → task_or_end_line k t ≡ EndTaken → end_digits < length t
+          → (w : Bool) → starts_with t 55 linked_digits ≡ w → task_or_end_line k t ≡ Ok None → end_digits < length t
       go true o y p u r w s e = none_is is_end (simp o at e) (task_no_end task_digits 0 0) refl
       go false o true p u r w s e = none_is is_end (simp (o, p) at e) (task_no_end part_digits 1 (task_mask t)) refl
       go false o false p true r w s e = none_is is_end (simp (o, p, r) at e) (linked_no_end Ring) refl

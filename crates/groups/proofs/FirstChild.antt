@@ -8,11 +8,13 @@ use lib.ListN.{length, get_or, set}
 use borrow.Author.Tests.{lt-ltb, le-ltb}
 use Rattle.meaning.specs.Lists.{pick}
 use Rattle.meaning.specs.Groups.{half}
-use Rattle.rows.specs.Ranges.{Range, range, first_half, row_start}
+use Rattle.rows.specs.Ranges.{Range, range, first_half}
+use Rattle.groups.specs.declared.Stretch.{Stretch}
+use Rattle.groups.specs.declared.Part.{Part}
 use Rattle.groups.specs.Groups.{all_single, first_child}
-use Rattle.groups.specs.Lent.{Startable, Arrays, arrays, group_in, Standing, Stands, ToChild}
+use Rattle.groups.specs.Lent.{group_in, part_at, Startable, Standing, Stands, ToChild}
 use Rattle.groups.proofs.LaidOut.{row_asked}
-use Rattle.groups.proofs.Arrays.{no_range, stands_start, stands_cut, own_length, own_get, standing_at}
+use Rattle.groups.proofs.Arrays.{no_range, no_part, no_stretch, count_at, group_length, group_get, stands_put, own_length, own_stands, standing_at}
 
 child_at : (xs : List Range) (j : ℕ) → j < length xs → ((k : ℕ) → k < j → (get_or xs k no_range).len ≤ 1) → 1 < (get_or xs j no_range).len
     → (first_child xs ≡ set xs j (first_half (get_or xs j no_range))) × (all_single xs ≡ false)
@@ -27,31 +29,30 @@ all_short : (xs : List Range) → ((k : ℕ) → k < length xs → (get_or xs k 
 all_short [] a = refl
 all_short (x ∷ xs) a = rw (le-ltb 1 x.len (a 0 (omega arith)), all_short xs (λ k l. a (suc k) (omega arith)))
 
-module _ {h d : ℕ} {root count : List ℕ} {a : Arrays} (w : Standing h d root count a) where
+module _ {d : ℕ} {ss : List Stretch} {a : List Part} (w : Standing d ss a) where
   abbrev xs : List Range
-  xs = group_in h a
+  xs = group_in a
 
-  len_at : (j : ℕ) → j < h → (get_or xs j no_range).len ≡ get_or a.len j 0
-  len_at j l = ap (λ (x : Range). x.len) (own_get w j l)
+  len_at : (j : ℕ) → (get_or xs j no_range).len ≡ (get_or a j no_part).len
+  len_at j = ap (λ (x : Range). x.len) (group_get a j)
 
   -- c is the first part of the range at j
-  module _ {j c : ℕ} (l : j < h) (is : c ≡ half (get_or a.len j 0)) where
+  module _ {j c : ℕ} (l : j < length ss) (is : c ≡ half (get_or a j no_part).len) where
     abbrev cut : Range
-    cut = range (get_or a.first j 0) c
+    cut = range (get_or a j no_part).first c
 
-    pub child_asks : Startable d (get_or root j 0) cut
-    child_asks = let x = standing_at w j l in row_asked w.stretches j l cut (omega (arith, x.within)) (omega (arith, x.full))
+    pub child_asks : Startable d (get_or ss j no_stretch).root cut
+    child_asks = let x = standing_at w j l in row_asked ss w.stretches j l cut (omega (arith, x.within, count_at ss j)) (omega (arith, x.full))
 
-    pub child_found : 1 < get_or a.len j 0 → (v : ℕ) → ((k : ℕ) → k < j → get_or a.len k 0 ≤ 1) → v ≡ row_start d (get_or root j 0) cut
-        → ToChild h d root a true (arrays (set a.base j v) a.first (set a.len j c))
-    child_found m v s e =
-        let i = child_at xs j (omega (arith, own_length w)) (λ k p. omega (arith, s k p, len_at k (omega arith))) (omega (arith, len_at j l)) in
-        let g : set xs j cut ≡ first_child xs = ap (set xs j) (ap (range (get_or a.first j 0)) is ∙ ap first_half (sym (own_get w j l))) ∙ sym i.0 in
-        let stands = stands_cut (stands_start w.holds) j l c v e in
-        rw i.1 record { says = refl; stands = subst (Stands h d root a (arrays (set a.base j v) a.first (set a.len j c))) g stands }
+    pub child_found : 1 < (get_or a j no_part).len → ((k : ℕ) → k < j → (get_or a k no_part).len ≤ 1) → {p : Part}
+        → p ≡ part_at d (get_or ss j no_stretch).root cut → ToChild d ss a true (set a j p)
+    child_found m s {p} e =
+        let i = child_at xs j (omega (arith, group_length a, own_length w)) (λ k p. omega (arith, s k p, len_at k)) (omega (arith, len_at j)) in
+        let g : set xs j cut ≡ first_child xs =
+        ap (set xs j) (ap (range (get_or a j no_part).first) is ∙ ap first_half (sym (group_get a j))) ∙ sym i.0 in
+        rw i.1 record { says = refl; stands = subst (Stands d ss (set a j p)) g (stands_put (own_stands w) j cut e) }
 
-  pub child_none : ((k : ℕ) → k < h → get_or a.len k 0 ≤ 1) → ToChild h d root a false a
+  pub child_none : ((k : ℕ) → k < length a → (get_or a k no_part).len ≤ 1) → ToChild d ss a false a
   child_none s =
-      let n = own_length w in
-      let i = all_short xs (λ k m. omega (arith, s k (omega arith), len_at k (omega arith))) in
-      rw i record { says = refl; stands = stands_start w.holds }
+      let i = all_short xs (λ k m. omega (arith, s k (omega (arith, group_length a)), len_at k)) in
+      rw i record { says = refl; stands = own_stands w }

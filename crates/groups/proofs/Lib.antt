@@ -1,6 +1,6 @@
 pub mod Pending
-pub mod LaidOut
 pub mod Arrays
+pub mod LaidOut
 pub mod TopGroup
 pub mod FirstChild
 pub mod NextGroup

@@ -1,30 +1,24 @@
--- There is only one way for arrays to stand at a group.
-use mathlib.Core.Path.{◌≡◌, refl, sym, ap, ap₂, ◌∙◌}
-use Prim.Native.Nat.{ℕ, zero, suc}
-use native.Mathlib.Omega.{arith}
-use mathlib.Core.List.{List, [], ◌∷◌, ◌++◌, map}
-use lib.ListN.{length, take, drop, take-append-drop}
+-- There is only one way for parts to stand at a group.
+use mathlib.Core.Path.{◌≡◌, sym, ap, ap₂, ◌∙◌}
+use Prim.Native.Nat.{ℕ}
+use mathlib.Core.List.{List}
+use lib.ListN.{length, get_or}
+use Rattle.std.proofs.lemmas.List.{ext_get_or}
 use Rattle.rows.specs.Ranges.{Range}
-use Rattle.groups.specs.Lent.{Arrays, arrays, paired, Holds, Stands}
-use Rattle.groups.proofs.Arrays.{even, holds_firsts}
+use Rattle.groups.specs.declared.Stretch.{Stretch}
+use Rattle.groups.specs.declared.Part.{Part}
+use Rattle.groups.specs.Lent.{group_in, starts_in, Stands}
+use Rattle.groups.proofs.Arrays.{no_range, no_part, group_length, group_get, start_get}
 
-paired_lens : (h : ℕ) (fs ls : List ℕ) → length fs ≡ length ls → map (λ (x : Range). x.len) (take h (paired fs ls)) ≡ take h ls
-paired_lens zero fs ls e = refl
-paired_lens (suc h) [] [] e = refl
-paired_lens (suc h) [] (l ∷ ls) e = absurd (omega arith)
-paired_lens (suc h) (f ∷ fs) [] e = absurd (omega arith)
-paired_lens (suc h) (f ∷ fs) (l ∷ ls) e = ap (λ (x : List ℕ). l ∷ x) (paired_lens h fs ls (omega arith))
+-- parts with the same ranges and the same starts
+same_parts : (b c : List Part) → group_in b ≡ group_in c → starts_in b ≡ starts_in c → b ≡ c
+same_parts b c p q = ext_get_or no_part b c (sym (group_length b) ∙ ap length p ∙ group_length c) (λ j l. same j)
+  where
+    same : (j : ℕ) → get_or b j no_part ≡ get_or c j no_part
+    same j =
+        let r = sym (group_get b j) ∙ ap (λ (z : List Range). get_or z j no_range) p ∙ group_get c j in
+        let s = sym (start_get b j) ∙ ap (λ (z : List ℕ). get_or z j 0) q ∙ start_get c j in
+        ap₂ {C = Part} (λ (n : ℕ) (x : Range). record { base = n; first = x.first; len = x.len }) s r
 
-holds_lens : {h d : ℕ} {root : List ℕ} {a : Arrays} {xs : List Range} → Holds h d root a xs → map (λ (x : Range). x.len) xs ≡ take h a.len
-holds_lens {h} {a = a} w = ap (map (λ (x : Range). x.len)) (sym w.group) ∙ paired_lens h a.first a.len (even w.sized)
-
--- two lists with the same front and the same rest
-rejoin : (h : ℕ) (xs ys : List ℕ) → take h xs ≡ take h ys → drop h xs ≡ drop h ys → xs ≡ ys
-rejoin h xs ys p q = sym (take-append-drop h xs) ∙ ap₂ ◌++◌ p q ∙ take-append-drop h ys
-
-pub stands_settled : {h d : ℕ} {root : List ℕ} {a b c : Arrays} {xs : List Range} → Stands h d root a b xs → Stands h d root a c xs → b ≡ c
-stands_settled {h} {b = b} {c = c} v w =
-    let base : b.base ≡ c.base = rejoin h b.base c.base (v.holds.starts ∙ sym w.holds.starts) (v.bases ∙ sym w.bases) in
-    let first : b.first ≡ c.first = rejoin h b.first c.first (sym (holds_firsts v.holds) ∙ holds_firsts w.holds) (v.firsts ∙ sym w.firsts) in
-    let len : b.len ≡ c.len = rejoin h b.len c.len (sym (holds_lens v.holds) ∙ holds_lens w.holds) (v.lens ∙ sym w.lens) in
-    ap₂ (λ (x y : List ℕ). arrays x y b.len) base first ∙ ap (arrays c.base c.first) len
+pub stands_settled : {d : ℕ} {ss : List Stretch} {b c : List Part} {xs : List Range} → Stands d ss b xs → Stands d ss c xs → b ≡ c
+stands_settled {b = b} {c = c} v w = same_parts b c (v.group ∙ sym w.group) (v.starts ∙ sym w.starts)

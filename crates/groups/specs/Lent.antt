@@ -1,47 +1,38 @@
--- A group as the code has it, in lent arrays of which the first h cells count; what the functions ask of them and promise.
-use Rattle.std.specs.Prelude.{◌≡◌, ℕ, ◌+◌, ◌*◌, ◌≤◌, ◌<◌, Bool, true, false, List, [], ◌∷◌, length, take, drop, get_or, set}
+-- A group as the code has it, a part of each higher task's stretch; what the functions ask of it and promise.
+use Rattle.std.specs.Prelude.{◌≡◌, ℕ, ◌+◌, ◌*◌, ◌≤◌, ◌<◌, Bool, true, false, List, map, length, get_or}
 use Rattle.std.proofs.Math.Option.{Option, none, some}
 use Rattle.meaning.specs.Bounds.{largest_d, most_higher, most_paths}
 use Rattle.meaning.specs.Areas.{rows_for}
 use Rattle.rows.specs.Ranges.{Range, range, row_start}
+use Rattle.groups.specs.declared.Stretch.{Stretch}
+use Rattle.groups.specs.declared.Part.{Part}
 use Rattle.groups.specs.Groups.{row_starts, top_group, child_group, next_group, InWalk}
 
--- ---- the arrays
+-- ---- the stretches and the parts
 
--- where the rows begin, the first paths and the lengths
-pub record Arrays : Type 0 where
-  pub base : List ℕ
-  pub first : List ℕ
-  pub len : List ℕ
+-- where the stretches begin
+abbrev pub roots : List Stretch → List ℕ
+roots ss = map (λ (s : Stretch). s.root) ss
 
-abbrev pub arrays : List ℕ → List ℕ → List ℕ → Arrays
-arrays base first len = record { base = base; first = first; len = len }
+-- how many paths their tasks have
+abbrev pub counts : List Stretch → List ℕ
+counts ss = map (λ (s : Stretch). s.count) ss
 
--- each has a cell for every higher task that there can be
-pub record Sized (a : Arrays) : Type 0 where
-  pub base_length : length a.base ≡ most_higher
-  pub first_length : length a.first ≡ most_higher
-  pub len_length : length a.len ≡ most_higher
+-- the range that a part takes
+abbrev pub range_in : Part → Range
+range_in p = range p.first p.len
 
--- two arrays of numbers as one list of ranges
-abbrev pub paired : List ℕ → List ℕ → List Range
-paired [] ls = []
-paired (f ∷ fs) [] = []
-paired (f ∷ fs) (l ∷ ls) = range f l ∷ paired fs ls
+-- the group that the parts hold
+abbrev pub group_in : List Part → List Range
+group_in a = map range_in a
 
--- the group that the arrays hold
-abbrev pub group_in : ℕ → Arrays → List Range
-group_in h a = take h (paired a.first a.len)
+-- where they say that its rows begin
+abbrev pub starts_in : List Part → List ℕ
+starts_in a = map (λ (p : Part). p.base) a
 
--- it is xs, and they hold where its rows begin
-pub record Holds (h d : ℕ) (root : List ℕ) (a : Arrays) (xs : List Range) : Type 0 where
-  pub sized : Sized a
-  pub group : group_in h a ≡ xs
-  pub starts : take h a.base ≡ row_starts d (take h root) xs
-
--- the range of task j becomes x, in a stretch that begins at root
-abbrev pub put_range : ℕ → ℕ → Arrays → ℕ → Range → Arrays
-put_range d root a j x = arrays (set a.base j (row_start d root x)) (set a.first j x.first) (set a.len j x.len)
+-- the part that takes the range x, in a stretch that begins at root
+abbrev pub part_at : ℕ → ℕ → Range → Part
+part_at d root x = record { base = row_start d root x; first = x.first; len = x.len }
 
 -- ---- what is asked
 
@@ -53,29 +44,31 @@ largest_index = 18446744073709551615
 abbrev pub Startable : ℕ → ℕ → Range → Type 0
 Startable d root x = (x.first + x.len ≤ most_paths) × (d ≤ largest_d) × (row_start d root x ≤ largest_index)
 
--- where each task's stretch begins and how many paths the task has; the stretches end within so many cells
+-- where each of h tasks' stretches begins and how many paths the task has; the stretches end within so many cells
 pub record LaidOut (room h d : ℕ) (root count : List ℕ) : Type 0 where
   pub few : h ≤ most_higher
   pub short : d ≤ largest_d
-  pub root_length : length root ≡ most_higher
-  pub count_length : length count ≡ most_higher
+  pub root_length : h ≤ length root
+  pub count_length : h ≤ length count
   pub paths : (j : ℕ) → j < h → (0 < get_or count j 0) × (get_or count j 0 ≤ most_paths)
   pub within : (j : ℕ) → j < h → get_or root j 0 + rows_for (get_or count j 0) * d ≤ room
 
--- the arrays hold a group of the walk, and no index is too large
-pub record Standing (h d : ℕ) (root count : List ℕ) (a : Arrays) : Type 0 where
-  pub stretches : LaidOut largest_index h d root count
-  pub holds : Holds h d root a (group_in h a)
-  pub reached : InWalk (take h count) (group_in h a)
+-- these stretches are, and no index is too large
+abbrev pub LaidOver : ℕ → List Stretch → Type 0
+LaidOver d ss = LaidOut largest_index (length ss) d (roots ss) (counts ss)
+
+-- the parts hold a group of the walk, and where its rows begin
+pub record Standing (d : ℕ) (ss : List Stretch) (a : List Part) : Type 0 where
+  pub stretches : LaidOver d ss
+  pub starts : starts_in a ≡ row_starts d (roots ss) (group_in a)
+  pub reached : InWalk (counts ss) (group_in a)
 
 -- ---- what is promised
 
--- the arrays a became b, which hold the group xs; the cells that do not count are unchanged
-pub record Stands (h d : ℕ) (root : List ℕ) (a b : Arrays) (xs : List Range) : Type 0 where
-  pub holds : Holds h d root b xs
-  pub bases : drop h b.base ≡ drop h a.base
-  pub firsts : drop h b.first ≡ drop h a.first
-  pub lens : drop h b.len ≡ drop h a.len
+-- the parts hold the group xs, and where its rows begin
+pub record Stands (d : ℕ) (ss : List Stretch) (b : List Part) (xs : List Range) : Type 0 where
+  pub group : group_in b ≡ xs
+  pub starts : starts_in b ≡ row_starts d (roots ss) xs
 
 -- whether there is a group to go to
 abbrev pub is_there : Option (List Range) → Bool
@@ -87,15 +80,15 @@ abbrev pub or_stay : Option (List Range) → List Range → List Range
 or_stay none xs = xs
 or_stay (some ys) xs = ys
 
--- told whether there is one, and the arrays hold it; where there is none, they hold the group xs
-pub record Moved (to : Option (List Range)) (xs : List Range) (h d : ℕ) (root : List ℕ) (a : Arrays) (told : Bool) (b : Arrays) : Type 0 where
+-- told whether there is one, and the parts hold it; where there is none, they hold the group xs
+pub record Moved (to : Option (List Range)) (xs : List Range) (d : ℕ) (ss : List Stretch) (told : Bool) (b : List Part) : Type 0 where
   pub says : told ≡ is_there to
-  pub stands : Stands h d root a b (or_stay to xs)
+  pub stands : Stands d ss b (or_stay to xs)
 
 -- the first child, if there is one; else the group stays
-abbrev pub ToChild : ℕ → ℕ → List ℕ → Arrays → Bool → Arrays → Type 0
-ToChild h d root a told b = Moved (child_group (group_in h a)) (group_in h a) h d root a told b
+abbrev pub ToChild : ℕ → List Stretch → List Part → Bool → List Part → Type 0
+ToChild d ss a told b = Moved (child_group (group_in a)) (group_in a) d ss told b
 
 -- the next group, if there is one; else the top group
-abbrev pub ToNext : ℕ → ℕ → List ℕ → List ℕ → Arrays → Bool → Arrays → Type 0
-ToNext h d root count a told b = Moved (next_group (take h count) (group_in h a)) (top_group (take h count)) h d root a told b
+abbrev pub ToNext : ℕ → List Stretch → List Part → Bool → List Part → Type 0
+ToNext d ss a told b = Moved (next_group (counts ss) (group_in a)) (top_group (counts ss)) d ss told b

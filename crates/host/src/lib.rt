@@ -15,13 +15,9 @@ ghost use Rattle.host.specs.Told.{VertexTold, LatestTold, counts_number, TableTo
 
 use cells::write_cells;
 use counts::Counts;
-use judge::{TableVerdict, desk_output, judge, judge_table, latest};
-use kinds::{
-    RefusedAt, TaskNumber, VertexNumber, lateness_finish, lateness_place, narrow, refusal_number,
-    verdict_in, verdict_number, verdict_place, verdict_value,
-};
+use judge::{desk_output, judge, judge_table, latest};
+use kinds::{RefusedAt, TaskNumber, Verdict, VertexNumber, narrow};
 use reader::text_check;
-use writer::Written;
 
 // The text check, by the project's name.
 pub fn tectavirio_text_check(text: &[u8]) -> u32
@@ -52,9 +48,9 @@ pub fn tectavirio_judge(
         work,
         witness,
     );
-    *value = verdict_value(verdict);
-    *place = verdict_place(verdict);
-    verdict_number(verdict)
+    *value = verdict.value();
+    *place = verdict.place();
+    verdict.number()
 }
 
 // One vertex, and how late its latest is: as the call above, but a meets has the cells that it wrote as its place, and the finish is its worst finish; 0
@@ -80,37 +76,34 @@ pub fn tectavirio_latest(
         work,
         witness,
     );
-    let said = verdict_in(late);
-    *value = verdict_value(said);
-    *place = lateness_place(late);
-    *finish = lateness_finish(late) as u32;
-    verdict_number(said)
+    let said = Verdict::from(late);
+    *value = said.value();
+    *place = late.place();
+    *finish = u32::from(late.finish());
+    said.number()
 }
 
-// Each count in a byte, those that meet highest.
+// Each count in a byte, those that meet highest. Plain numbers: C reads them.
 fn counts_number(c: Counts) -> u32
     ensures { result ≡ counts_number (meant_counts c) }
 {
-    ((c.meeting as u32 * 256 + c.missing as u32) * 256 + c.unfinishing as u32) * 256
-        + c.refusing as u32
+    u32::from_be_bytes([c.meeting, c.missing, c.unfinishing, c.refusing])
 }
 
-// Its number in the upper half, and what is returned with it in the lower.
+// Its number in the upper half, and what is returned with it in the lower: C reads it, too.
 fn refused_number(at: RefusedAt) -> u64
     ensures { result ≡ refusal_number at.refusal * 4294967296 + at.place }
 {
-    let refusal = at.refusal;
-    refusal_number(refusal) as u64 * 4294967296 + at.place as u64
+    (u64::from(at.refusal.number()) << 32) + u64::from(at.place)
 }
 
 // The four counts of the text's table, below 4,294,967,296; else the refusal's number x 4,294,967,296 + its line.
 pub fn tectavirio_judge_table(text: &[u8], budget: u32, work: &mut [u32]) -> u64
     ensures { TableTold text.now budget work.old result work.new }
 {
-    let verdict = judge_table(text, budget, work);
-    match verdict {
-        TableVerdict::Counted(counts) => counts_number(counts) as u64,
-        TableVerdict::Refused(at) => refused_number(at),
+    match judge_table(text, budget, work) {
+        Ok(counts) => u64::from(counts_number(counts)),
+        Err(at) => refused_number(at),
     }
 }
 
@@ -118,10 +111,9 @@ pub fn tectavirio_judge_table(text: &[u8], budget: u32, work: &mut [u32]) -> u64
 pub fn tectavirio_write(cells: &[u16], out: &mut [u8]) -> u64
     ensures { WriteTold cells.now out.old result out.new }
 {
-    let written = write_cells(cells, out);
-    match written {
-        Written::Bytes(n) => n as u64,
-        Written::Refused(at) => refused_number(at),
+    match write_cells(cells, out) {
+        Ok(n) => n as u64,
+        Err(at) => refused_number(at),
     }
 }
 

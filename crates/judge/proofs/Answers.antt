@@ -3,6 +3,7 @@ use mathlib.Core.Path.{◌≡◌, refl, sym, ap, subst}
 use Prim.Native.Nat.{ℕ}
 use mathlib.Core.List.{List}
 use lib.ListN.{length}
+use Rattle.std.specs.Prelude.{Result, Ok, Err}
 use Rattle.meaning.specs.Table as Meant
 use Rattle.meaning.specs.Text.{Reading, read, tasks_of}
 use Rattle.meaning.specs.Verdict.{Asked, meets_paths}
@@ -18,8 +19,6 @@ use Rattle.table.specs.declared.Table.{Table}
 use Rattle.table.specs.Inner.{table_of, Held}
 use Rattle.reader.proofs.Result.{TableRead, LineRefused}
 use Rattle.counts.specs.declared.Counts.{Counts}
-use Rattle.judge.specs.declared.TableVerdict.{TableVerdict}
-use Rattle.judge.specs.declared.TableVerdict.TheVariants as Whole
 use Rattle.judge.specs.Judged.{JudgedBy, AnsweredBy}
 use Rattle.judge.specs.Inner.{last_tick, VertexJudged, TextJudged, TableCounted}
 use Rattle.judge.specs.Whole.{answer_of, TableJudged}
@@ -54,15 +53,15 @@ judged_by t q =
 -- ---- of a whole table
 
 module _ (text : List ℕ) (b : ℕ) (work : List ℕ) where
-  abbrev ForTable : Reading → TableVerdict → List ℕ → Type 0
+  abbrev ForTable : Reading → Result Counts RefusedAt → List ℕ → Type 0
   ForTable m r work' = (answer_of r ≡ table_answer m b (length work)) × (work' ≡ table_work_after m b work)
 
-  on_reading_lem : (m : Reading) (r : TableVerdict) (work' : List ℕ) → read text ≡ m → ForTable m r work' → TableJudged text b work r work'
+  on_reading_lem : (m : Reading) (r : Result Counts RefusedAt) (work' : List ℕ) → read text ≡ m → ForTable m r work' → TableJudged text b work r work'
   on_reading_lem m r work' q x = let y = subst (λ n. ForTable n r work') (sym q) x in record { verdict = y.0; cells = y.1 }
 
-  pub text_uncounted : (at : RefusedAt) → LineRefused text at → TableJudged text b work (Whole.Refused at) work
-  text_uncounted at l = on_reading_lem _ (Whole.Refused at) work l.means (refl, refl)
+  pub text_uncounted : (at : RefusedAt) → LineRefused text at → TableJudged text b work (Err at) work
+  text_uncounted at l = on_reading_lem _ (Err at) work l.means (refl, refl)
 
   pub table_counted : (t : Table) (c : Counts) (work' : List ℕ) → TableRead text t
-      → TableCounted (table_of t) b work c work' → TableJudged text b work (Whole.Counted c) work'
-  table_counted t c work' q x = on_reading_lem _ (Whole.Counted c) work' q.means (ap counted x.counts, x.cells)
+      → TableCounted (table_of t) b work c work' → TableJudged text b work (Ok c) work'
+  table_counted t c work' q x = on_reading_lem _ (Ok c) work' q.means (ap counted x.counts, x.cells)

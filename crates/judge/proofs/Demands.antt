@@ -5,6 +5,7 @@ use mathlib.Core.Option.{none, some}
 use mathlib.Core.List.{List, [], ◌∷◌}
 use native.Mathlib.Omega.{arith}
 use lib.ListN.{length, get_or}
+use Rattle.std.specs.Prelude.{Result, Ok, Err}
 use Rattle.meaning.specs.Table.{Table, higher}
 use Rattle.meaning.specs.Text.{Reading, readable, unreadable, read, tasks_of}
 use Rattle.meaning.specs.Verdict as Said
@@ -25,6 +26,7 @@ use Rattle.meaning.proofs.Latest.{worst_is, worst_alone}
 use Rattle.meaning.proofs.Refusals.{admitted_sound}
 use Rattle.meaning.proofs.Counts.{counts_all, meets_mono, misses_mono}
 use Rattle.kinds.specs.declared.Refusal.{Refusal}
+use Rattle.kinds.specs.declared.RefusedAt.{RefusedAt}
 use Rattle.kinds.specs.declared.Verdict.{Verdict}
 use Rattle.kinds.specs.declared.Verdict.TheVariants.{Meets, Misses, Unfinished, Refused}
 use Rattle.kinds.specs.Numbers.{refusal_number, verdict_numbers, lateness_numbers}
@@ -33,8 +35,6 @@ use Rattle.counts.specs.declared.Counts.{Counts}
 use Rattle.counts.specs.Counts.{meant_counts, total_of}
 use Rattle.kinds.specs.declared.Ticks.{Ticks}
 use Rattle.kinds.specs.declared.Lateness.TheVariants as Late
-use Rattle.judge.specs.declared.TableVerdict.{TableVerdict}
-use Rattle.judge.specs.declared.TableVerdict.TheVariants as Whole
 use Rattle.judge.specs.Whole.{answer_of}
 use Rattle.judge.specs.Demands.{Call, groups, refused_by, Demand1, Demand2, SameVertex, Larger, Demand3, AreasAfter, LatestCall, HowLate, TableCall}
 use Rattle.judge.specs.Demands.{TextFirst, FourCounts}
@@ -291,9 +291,9 @@ how_late =
 
 -- ---- a whole table
 
-counted_is : (r : TableVerdict) (n : Meant.Counts) → answer_of r ≡ counted n → (c : Counts) × (r ≡ Whole.Counted c) × (meant_counts c ≡ n)
-counted_is (Whole.Counted c) n q = (c, refl, cc)
-counted_is (Whole.Refused at) n q = let z : ◌≡◌ {A = ℕ} 0 1 = cc in absurd (omega arith)
+counted_is : (r : Result Counts RefusedAt) (n : Meant.Counts) → answer_of r ≡ counted n → (c : Counts) × (r ≡ Ok c) × (meant_counts c ≡ n)
+counted_is (Ok c) n q = (c, refl, cc)
+counted_is (Err at) n q = let z : ◌≡◌ {A = ℕ} 0 1 = cc in absurd (omega arith)
 
 uncounted_unchanged : (m : Reading) (b : ℕ) (work : List ℕ) (k n : ℕ) → uncounted k n ≡ table_answer m b (length work) → table_work_after m b work ≡ work
 uncounted_unchanged (readable ts) b work k n q = let z : ◌≡◌ {A = ℕ} 0 1 = cc in absurd (omega arith)
@@ -304,12 +304,12 @@ module _ (x : TableCall) where
   answered q = x.promised.verdict ∙ ap (λ (n : Reading). table_answer n x.b (length x.work)) q
 
   -- a text that is counted is readable
-  is_readable : (c : Counts) (m : Reading) → read x.text ≡ m → x.r ≡ Whole.Counted c
+  is_readable : (c : Counts) (m : Reading) → read x.text ≡ m → x.r ≡ Ok c
       → (ts : Table) × (m ≡ readable ts)
   is_readable c (readable ts) q e = (ts, refl)
   is_readable c (unreadable k n) q e = let p = ap answer_of (sym e) ∙ answered q in let z : ◌≡◌ {A = ℕ} 0 1 = cc in absurd (omega arith)
 
-  counts_of_lem : (c : Counts) (ts : Table) → read x.text ≡ readable ts → x.r ≡ Whole.Counted c
+  counts_of_lem : (c : Counts) (ts : Table) → read x.text ≡ readable ts → x.r ≡ Ok c
       → meant_counts c ≡ counts_of (verdicts ts x.b (length x.work))
   counts_of_lem c ts q e = let p = ap answer_of (sym e) ∙ answered q in cc
 
@@ -332,7 +332,7 @@ four_counts =
     }
   where
     more : (x y : TableCall) → read y.text ≡ read x.text → x.b ≤ y.b → length y.work ≡ length x.work → (c d : Counts)
-        → x.r ≡ Whole.Counted c → y.r ≡ Whole.Counted d → (c.meeting ≤ d.meeting) × (c.missing ≤ d.missing)
+        → x.r ≡ Ok c → y.r ≡ Ok d → (c.meeting ≤ d.meeting) × (c.missing ≤ d.missing)
     more x y same h room c d e f =
         let m = is_readable x c (read x.text) refl e in
         let ts = m.0 in
@@ -363,15 +363,15 @@ settled_latest text i v b work wit r s work₁ wit₁ work₂ wit₂ j k =
     (same_lateness r s (j.answer_is ∙ sym k.answer_is), j.cells ∙ sym k.cells, j.paths ∙ sym k.paths)
 
 -- a table's verdict from its answer
-abbrev table_verdict_of : TableAnswer → TableVerdict
-table_verdict_of (counted n) = Whole.Counted (record { meeting = n.meeting; missing = n.missing; unfinishing = n.unfinishing; refusing = n.refusing })
-table_verdict_of (uncounted k n) = Whole.Refused (record { refusal = refusal_of k; place = n })
+abbrev table_verdict_of : TableAnswer → Result Counts RefusedAt
+table_verdict_of (counted n) = Ok (record { meeting = n.meeting; missing = n.missing; unfinishing = n.unfinishing; refusing = n.refusing })
+table_verdict_of (uncounted k n) = Err (record { refusal = refusal_of k; place = n })
 
-verdict_of-answer : (r : TableVerdict) → table_verdict_of (answer_of r) ≡ r
-verdict_of-answer (Whole.Counted c) = refl
-verdict_of-answer (Whole.Refused at) = ap (λ (k : Refusal). Whole.Refused (record { refusal = k; place = at.place })) (refusal-of_number at.refusal)
+verdict_of-answer : (r : Result Counts RefusedAt) → table_verdict_of (answer_of r) ≡ r
+verdict_of-answer (Ok c) = refl
+verdict_of-answer (Err at) = ap (λ (k : Refusal). Err (record { refusal = k; place = at.place })) (refusal-of_number at.refusal)
 
-pub same_table_verdict : (r s : TableVerdict) → answer_of r ≡ answer_of s → r ≡ s
+pub same_table_verdict : (r s : Result Counts RefusedAt) → answer_of r ≡ answer_of s → r ≡ s
 same_table_verdict r s q = sym (verdict_of-answer r) ∙ ap table_verdict_of q ∙ verdict_of-answer s
 
 pub settled_table : SettledTable

@@ -6,6 +6,7 @@ use native.Mathlib.Decide.{dec_lt}
 use mathlib.Core.List.{List, [], ◌∷◌}
 use lib.ListN.{length, get_or, take}
 use lib.Dec.{eqb}
+use Rattle.std.specs.Prelude.{Result, Err}
 use Rattle.meaning.specs.Lists.{pick}
 use Rattle.meaning.specs.Paths.{Path}
 use Rattle.meaning.specs.Verdict as Said
@@ -26,8 +27,6 @@ use Rattle.table.proofs.Vertices.{own_task, own_size}
 use Rattle.walk.specs.declared.Ending.{Ending}
 use Rattle.walk.specs.declared.Ending.TheVariants.{Meets, Misses, Unfinished}
 use Rattle.search.specs.Meant.{beside, meant_by}
-use Rattle.sheet.specs.declared.AreaRows.{AreaRows}
-use Rattle.sheet.specs.declared.AreaRows.TheVariants.{Refused}
 use Rattle.sheet.specs.Sheet.{refused_at, no_such_vertex, area_rows, said_of}
 use Rattle.sheet.proofs.Needs.{row_10, row_11, rows_passed, same_at, not_refused}
 use Rattle.judge.specs.Judged.{AnsweredBy}
@@ -44,11 +43,11 @@ answer_refused J us t ρ place need work wit {r} e q =
 
 -- rows 10 and 11, for areas of which so many cells are needed
 pub answer_area : {J : Said.Verdict} {us : List Path} {t need : ℕ} {work wit : List ℕ} (n m : ℕ) → (length work < n → J ≡ Said.refused 10 n)
-    → (n ≤ length work → length wit < m → J ≡ Said.refused 11 m) → {x : AreaRows} → x ≡ area_rows n m (length work) (length wit)
-    → {at : RefusedAt} → x ≡ Refused at → {r : Lateness} → r ≡ Late.Refused at → AnsweredBy J t us need work wit r work wit
+    → (n ≤ length work → length wit < m → J ≡ Said.refused 11 m) → {x : Result (Unit {0}) RefusedAt} → x ≡ area_rows n m (length work) (length wit)
+    → {at : RefusedAt} → x ≡ Err at → {r : Lateness} → r ≡ Late.Refused at → AnsweredBy J t us need work wit r work wit
 answer_area {J} {us} {t} {need} {work} {wit} n m ten eleven p {at} q {r} g = by (dec_lt (length work) n) (dec_lt (length wit) m)
   where
-    row : (ρ : Refusal) (place : ℕ) → area_rows n m (length work) (length wit) ≡ Refused (refused_at ρ place) → J ≡ Said.refused (refusal_number ρ) place
+    row : (ρ : Refusal) (place : ℕ) → area_rows n m (length work) (length wit) ≡ Err (refused_at ρ place) → J ≡ Said.refused (refusal_number ρ) place
         → AnsweredBy J t us need work wit r work wit
     row ρ place e said = answer_refused J us t ρ place need work wit (g ∙ ap Late.Refused (sym (same_at (sym e ∙ sym p ∙ q)))) said
 

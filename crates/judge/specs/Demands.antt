@@ -1,6 +1,6 @@
 -- The customer's demands, said of the judging calls; `proofs/Demands`, `proofs/MaskedLengths`, `proofs/OwnDeadline` and `proofs/SlowerCradles` prove them.
 -- "Any bytes, any vertex number, any budget and any lent areas get an answer" is what the check of the calls says: they have no `requires`, and return.
-use Rattle.std.specs.Prelude.{◌≡◌, ℕ, ◌-◌, ◌*◌, ◌≤◌, ◌<◌, ◌⊎◌, length, drop, get_or}
+use Rattle.std.specs.Prelude.{◌≡◌, ℕ, ◌-◌, ◌*◌, ◌≤◌, ◌<◌, ◌⊎◌, length, drop, get_or, Result, Ok, Err}
 use Rattle.std.proofs.Math.Option.{Option, none, some}
 use mathlib.Core.List.{List, [], ◌∷◌, Memᴰ}
 use Rattle.meaning.specs.Bounds.{largest_d, largest_p, desk_work, desk_witness}
@@ -20,8 +20,6 @@ use Rattle.kinds.specs.declared.Verdict.TheVariants.{Meets, Misses, Unfinished, 
 use Rattle.kinds.specs.Numbers.{verdict_numbers, verdict_in}
 use Rattle.counts.specs.declared.Counts.{Counts}
 use Rattle.counts.specs.Counts.{meant_counts, total_of}
-use Rattle.judge.specs.declared.TableVerdict.{TableVerdict}
-use Rattle.judge.specs.declared.TableVerdict.TheVariants as Whole
 use Rattle.kinds.specs.declared.Ticks.{Ticks}
 use Rattle.kinds.specs.declared.Lateness.{Lateness}
 use Rattle.kinds.specs.declared.Lateness.TheVariants as Late
@@ -179,22 +177,22 @@ pub record TableCall : Type 0 where
   pub text : List ℕ
   pub b : ℕ
   pub work : List ℕ
-  pub r : TableVerdict
+  pub r : Result Counts RefusedAt
   pub work' : List ℕ
   pub promised : TableJudged text b work r work'
 
 -- "Judging a whole table first checks the text (1 to 7, nothing changed)." By wish 6 it can get 13, too.
 pub record TextFirst : Type 0 where
   pub bad_table : (x : TableCall) (k n : ℕ) → read x.text ≡ unreadable k n → answer_of x.r ≡ uncounted k n
-  pub unchanged : (x : TableCall) (at : RefusedAt) → x.r ≡ Whole.Refused at → x.work' ≡ x.work
+  pub unchanged : (x : TableCall) (at : RefusedAt) → x.r ≡ Err at → x.work' ≡ x.work
 
 -- It "returns how many meet, miss, are unfinished and are refused by 9 or 10. The four add up to the number of vertices, counted from the text. [..] More
 -- budget never lowers the first two counts."
 pub record FourCounts : Type 0 where
   pub each : (x : TableCall) (ts : Table) → read x.text ≡ readable ts
-      → (c : Counts) × (x.r ≡ Whole.Counted c) × (meant_counts c ≡ counts_of (verdicts ts x.b (length x.work))) × (total_of (meant_counts c) ≡ vertex_total ts)
+      → (c : Counts) × (x.r ≡ Ok c) × (meant_counts c ≡ counts_of (verdicts ts x.b (length x.work))) × (total_of (meant_counts c) ≡ vertex_total ts)
   pub more : (x y : TableCall) → read y.text ≡ read x.text → x.b ≤ y.b → length y.work ≡ length x.work → (c d : Counts)
-      → x.r ≡ Whole.Counted c → y.r ≡ Whole.Counted d → (c.meeting ≤ d.meeting) × (c.missing ≤ d.missing)
+      → x.r ≡ Ok c → y.r ≡ Ok d → (c.meeting ≤ d.meeting) × (c.missing ≤ d.missing)
 
 -- And of a whole table: where each task's B is the same, the counts and the work cells are.
 pub record TableMasks : Type 0 where

@@ -1,7 +1,8 @@
 -- What the inner functions promise each other; no promise of `judge`, `latest`, `judge_table` or `desk_output` rests on it.
-use Rattle.std.specs.Prelude.{◌≡◌, ℕ, ◌<◌, List, length}
+use Rattle.std.specs.Prelude.{◌≡◌, ℕ, ◌≤◌, ◌<◌, List, length, get_or}
 use Rattle.meaning.specs.Lists.{gather}
-use Rattle.meaning.specs.Table.{Table, task_at}
+use Rattle.meaning.specs.Bounds.{most_paths}
+use Rattle.meaning.specs.Table.{Task, Table}
 use Rattle.meaning.specs.Text.{line, read, tasks_of}
 use Rattle.meaning.specs.Paths.{Path}
 use Rattle.meaning.specs.Verdict as Said
@@ -15,23 +16,28 @@ use Rattle.kinds.specs.Numbers.{verdict_numbers}
 use Rattle.kinds.specs.declared.Lateness.{Lateness}
 use Rattle.counts.specs.declared.Counts.{Counts}
 use Rattle.counts.specs.Counts.{meant_counts}
-use Rattle.counts.specs.Place.{next_place}
+use Rattle.counts.specs.Places.{size}
+use Rattle.areas.specs.declared.above.Above.{Above}
+use Rattle.areas.specs.Above.{path_counts, above_of}
 use Rattle.judge.specs.Judged.{AnsweredBy}
-
--- ---- the vertices, in rising order of task and then vertex
-
--- how many vertices task i has
-abbrev pub size : Table → ℕ → ℕ
-size ts i = length (task_at ts i).vertices
-
--- the task's next vertex, else the next task's first
-abbrev pub next_in : Table → Meant.Place → Meant.Place
-next_in ts q = next_place (size ts q.task) q
 
 -- a vertex of the table
 pub record There (ts : Table) (q : Meant.Place) : Type 0 where
   pub task : q.task < length ts
   pub vertex : q.vertex < size ts q.task
+
+-- ---- the tasks of higher priority, for a horizon of d ticks
+
+-- their paths are counted, and none has too many
+pub record AllCounted (ks : List Task) (d : ℕ) (a : Above) : Type 0 where
+  pub above : a ≡ above_of d (path_counts ks d)
+  pub few : (n : ℕ) → n < length ks → get_or (path_counts ks d) n 0 ≤ most_paths
+
+-- task j has too many, and none before it
+pub record Crowded (ks : List Task) (d j : ℕ) : Type 0 where
+  pub there : j < length ks
+  pub many : most_paths < get_or (path_counts ks d) j 0
+  pub few : (n : ℕ) → n < j → get_or (path_counts ks d) n 0 ≤ most_paths
 
 -- ---- a readable table
 

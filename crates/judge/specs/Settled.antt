@@ -1,10 +1,11 @@
 -- How tight the statements are: any two results that satisfy one coincide. `proofs/Demands` and `proofs/Output` prove it.
-use Rattle.std.specs.Prelude.{◌≡◌, ℕ, ◌≤◌, List, length}
+use Rattle.std.specs.Prelude.{◌≡◌, ℕ, ◌≤◌, List, length, Result}
 use Rattle.meaning.specs.Bounds.{longest_output}
 use Rattle.meaning.specs.Desk.{output}
 use Rattle.meaning.specs.Areas.{Wrote}
 use Rattle.kinds.specs.declared.Verdict.{Verdict}
-use Rattle.judge.specs.declared.TableVerdict.{TableVerdict}
+use Rattle.kinds.specs.declared.RefusedAt.{RefusedAt}
+use Rattle.counts.specs.declared.Counts.{Counts}
 use Rattle.kinds.specs.declared.Lateness.{Lateness}
 use Rattle.judge.specs.Judged.{Judged, LatestJudged}
 use Rattle.judge.specs.Whole.{TableJudged}
@@ -22,7 +23,7 @@ SettledLatest = (text : List ℕ) (i v b : ℕ) (work wit : List ℕ) (r s : Lat
 
 -- And of a whole table's, in the counts or the refusal and in every work cell.
 abbrev pub SettledTable : Type 0
-SettledTable = (text : List ℕ) (b : ℕ) (work : List ℕ) (r s : TableVerdict) (work₁ work₂ : List ℕ)
+SettledTable = (text : List ℕ) (b : ℕ) (work : List ℕ) (r s : Result Counts RefusedAt) (work₁ work₂ : List ℕ)
     → TableJudged text b work r work₁ → TableJudged text b work s work₂ → (r ≡ s) × (work₁ ≡ work₂)
 
 -- And of the desk's output, in its length and in every byte of the area.

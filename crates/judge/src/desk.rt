@@ -8,37 +8,27 @@ ghost use Rattle.judge.specs.Inner.{table_output};
 
 use crate::vertex::judge_vertex;
 use bounds::{DESK_BUDGET, DESK_WORK, MOST_WITNESS};
-use counts::places::{first_place, next_place};
-use counts::{counted, no_counts};
+use counts::Counts;
+use counts::places::Places;
 use desk_frames::{counts_line, vertex_lines};
-use kinds::verdict_in;
+use kinds::Verdict;
+use put::Pen;
 use table::Table;
 
-pub(crate) fn table_lines(out: &mut [u8], t: Table) -> usize
-    requires { Held t × (table_room (table_of t) ≤ length out.old) }
-    ensures { Wrote (table_output (table_of t)) out.old 0 out.new result }
+pub(crate) fn table_lines(t: &Table, out: &mut [u8]) -> usize
+    requires { Held t.now × (table_room (table_of t.now) ≤ length out.old) }
+    ensures { Wrote (table_output (table_of t.now)) out.old 0 out.new result }
 {
     let mut work = [0u32; DESK_WORK];
     let mut witness = [0u16; MOST_WITNESS];
-    let mut counts = no_counts();
-    let mut place = first_place();
-    let mut at: usize = 0;
-    while (place.task.0 as usize) < t.n {
-        let task = place.task;
-        let vertex = place.vertex;
-        let told = judge_vertex(t, task, vertex, DESK_BUDGET, false, &mut work, &mut witness);
-        let verdict = verdict_in(told);
-        at = vertex_lines(out, at, task, vertex, verdict, &witness);
-        counts = counted(counts, verdict);
-        let own = t.tasks[task.0 as usize];
-        place = next_place(own.nv, place);
+    let mut counts = Counts::none();
+    let mut pen = Pen { out, at: 0 };
+    for at in Places::of(t) {
+        let told = judge_vertex(t, at, DESK_BUDGET, false, &mut work, &mut witness);
+        let verdict = Verdict::from(told);
+        vertex_lines(&mut pen, at.task, at.vertex, verdict, &witness);
+        counts = counts.counted(verdict);
     }
-    counts_line(
-        out,
-        at,
-        counts.meeting,
-        counts.missing,
-        counts.unfinishing,
-        counts.refusing,
-    )
+    counts_line(&mut pen, counts);
+    pen.at
 }

@@ -1,11 +1,11 @@
-// How many bytes the desk's output can have, so that an area may be as short as its table allows.
+// How many bytes the desk's output can have, so that an area may be as short as its table allows. `as` here: the proofs read the numbers themselves.
 ghost use Rattle.std.specs.Prelude.{◌≡◌, ◌+◌, ◌*◌};
 ghost use Rattle.meaning.specs.Bounds.{verdict_line, path_line};
 ghost use Rattle.table.specs.Inner.{table_of, Held};
 ghost use Rattle.judge.specs.Desk.{table_room};
 
 use bounds::{COUNTS_LINE, VERDICT_LINE};
-use counts::places::{first_place, next_place};
+use counts::places::Places;
 use kinds::{TaskNumber, Ticks};
 use table::Table;
 
@@ -16,17 +16,14 @@ fn vertex_room(task: TaskNumber, d: Ticks) -> usize
     VERDICT_LINE + task.0 as usize * (2 * (4 + d.0 as usize) + 1)
 }
 
-pub(crate) fn table_room(t: Table) -> usize
-    requires { Held t }
-    ensures { result ≡ table_room (table_of t) }
+pub(crate) fn table_room(t: &Table) -> usize
+    requires { Held t.now }
+    ensures { result ≡ table_room (table_of t.now) }
 {
     let mut room = COUNTS_LINE;
-    let mut at = first_place();
-    while (at.task.0 as usize) < t.n {
-        let own = t.tasks[at.task.0 as usize];
-        let job = own.vertices[at.vertex.0 as usize];
+    for at in Places::of(t) {
+        let job = t.tasks[at.task.0 as usize].vertices[at.vertex.0 as usize];
         room += vertex_room(at.task, job.d);
-        at = next_place(own.nv, at);
     }
     room
 }

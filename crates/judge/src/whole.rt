@@ -5,27 +5,21 @@ ghost use Rattle.judge.specs.Inner.{TableCounted};
 
 use crate::vertex::judge_vertex;
 use bounds::MOST_WITNESS;
-use counts::places::{first_place, next_place};
-use counts::{Counts, counted, no_counts};
-use kinds::verdict_in;
+use counts::Counts;
+use counts::places::Places;
+use kinds::Verdict;
 use table::Table;
 
 // A witness area of its own, as long as any vertex needs, so that no vertex is refused by 11.
-pub(crate) fn count_verdicts(t: Table, budget: u32, work: &mut [u32]) -> Counts
-    requires { Held t }
-    ensures { TableCounted (table_of t) budget work.old result work.new }
+pub(crate) fn count_verdicts(t: &Table, budget: u32, work: &mut [u32]) -> Counts
+    requires { Held t.now }
+    ensures { TableCounted (table_of t.now) budget work.old result work.new }
 {
     let mut witness = [0u16; MOST_WITNESS];
-    let mut counts = no_counts();
-    let mut at = first_place();
-    while (at.task.0 as usize) < t.n {
-        let task = at.task;
-        let vertex = at.vertex;
-        let told = judge_vertex(t, task, vertex, budget, false, work, &mut witness);
-        let verdict = verdict_in(told);
-        counts = counted(counts, verdict);
-        let own = t.tasks[task.0 as usize];
-        at = next_place(own.nv, at);
+    let mut counts = Counts::none();
+    for at in Places::of(t) {
+        let told = judge_vertex(t, at, budget, false, work, &mut witness);
+        counts = counts.counted(Verdict::from(told));
     }
     counts
 }

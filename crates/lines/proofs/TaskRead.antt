@@ -20,13 +20,12 @@ use Rattle.table.proofs.Record.{task-of_record}
 use Rattle.frames.specs.declared.Form.{Form}
 use Rattle.frames.specs.declared.Form.TheVariants.{Plain, Ring, Gears}
 use Rattle.frames.specs.declared.Head.{Head}
-use Rattle.lines.specs.declared.Outcome.{Outcome}
-use Rattle.lines.specs.declared.Outcome.TheVariants.{AllTaken, StoppedBy}
-use Rattle.lines.specs.declared.VertexLines.{VertexLines}
-use Rattle.lines.specs.declared.EdgeLines.{EdgeLines}
-use Rattle.lines.specs.declared.TaskLines.{TaskLines}
+use Rattle.std.specs.Prelude.{Result, Ok, Err}
+use Rattle.table.specs.declared.Vertex.{Vertex}
+use Rattle.table.specs.declared.Edge.{Edge}
+use Rattle.lines.specs.declared.Stopped.{Stopped}
 use Rattle.frames.specs.Frames.{part_bytes}
-use Rattle.lines.specs.Parts.{took_vertices, took_task, vertex_lines, edges_on, edge_lines, if_all, covers, task_with, plain_lines, task_lines}
+use Rattle.lines.specs.Parts.{TaskTaken, took_task, part_then, vertex_lines, edges_on, edge_lines, covers, task_with, plain_lines, task_lines}
 use Rattle.lines.proofs.Gives.{no_vertices, no_edges_lem, TaskGives, whole-task, task_stopped, task_begun, TaskReach, stopped_reach}
 use Rattle.lines.proofs.Links.{linked_run, links_reach}
 use Rattle.frames.proofs.TaskOrEnd.{opened}
@@ -45,15 +44,15 @@ module _ (ts : List Meant.Task) (l v e : ℕ) (m : Ticks) (t : List ℕ) (some :
   rest = drop ((v + e) * part_bytes) t
 
   -- where the test of m holds, what becomes of the edges becomes of the task
-  abbrev after_mask : EdgeLines → List Meant.Vertex → TaskLines
-  after_mask b Y = if_all b.outcome (v + b.count) (took_task AllTaken (v + e) ((v + e) * part_bytes) (task_cells m v e (vertices_record Y) b.edges))
+  abbrev after_mask : Result (List Edge) Stopped → List Meant.Vertex → Result TaskTaken Stopped
+  after_mask b Y = part_then b (λ es. Ok (took_task (v + e) ((v + e) * part_bytes) (task_cells m v e (vertices_record Y) es)))
 
-  with_edges : (R : Reading) (Y : List Meant.Vertex) (b : EdgeLines) → length Y ≡ v
+  with_edges : (R : Reading) (Y : List Meant.Vertex) (b : Result (List Edge) Stopped) → length Y ≡ v
       → EdgesGive R ts m.0 Y (suc (l + length Y)) e (drop (e * part_bytes) (drop (v * part_bytes) t)) b
       → TaskGives R ts l t (after_mask b Y)
-  with_edges R Y b ly (edges_stopped w i es q) =
+  with_edges R Y b ly (edges_stopped w i q) =
       let o : suc (l + length Y) + i ≡ suc (l + (v + i)) = omega arith in
-      task_stopped w (v + i) (q ∙ ap (unreadable (refusal_number w)) o)
+      rw ly (task_stopped w (v + i) (q ∙ ap (unreadable (refusal_number w)) o))
   with_edges R Y b ly (all_edges F lf q) =
       let k : Meant.Task = Meant.task m.0 Y F in
       let o : suc (l + length Y) + length F ≡ suc (l + (v + e)) = omega arith in
@@ -77,15 +76,15 @@ module _ (ts : List Meant.Task) (l v e : ℕ) (m : Ticks) (t : List ℕ) (some :
       subst (λ (x : Reading). TaskGives x ts l t (after_mask (edge_lines v (vertices_record Y) e s) Y)) r
       (with_edges R' Y (edge_lines v (vertices_record Y) e s) ly run)
 
-  with_vertices : (R : Reading) (a : VertexLines) → VerticesGive R ts m.0 e l v (drop (v * part_bytes) t) a
-      → TaskGives R ts l t (task_with v e m a (edge_lines v a.vertices e (drop (v * part_bytes) t)))
-  with_vertices R a (vertices_stopped w i vs q) = task_stopped w i q
+  with_vertices : (R : Reading) (a : Result (List Vertex) Stopped) → VerticesGive R ts m.0 e l v (drop (v * part_bytes) t) a
+      → TaskGives R ts l t (part_then a (λ vs. task_with v e m vs (edge_lines v vs e (drop (v * part_bytes) t))))
+  with_vertices R a (vertices_stopped w i q) = task_stopped w i q
   with_vertices R a (all-vertices Y ly q) = go (leb m.0 (largest_e_in Y)) refl
     where
       same : covers v m (vertices_record Y) ≡ leb m.0 (largest_e_in Y)
       same = ap (λ (n : ℕ). covers n m (vertices_record Y)) (sym ly) ∙ ap (leb m.0) (largest-held Y)
 
-      go : (x : Bool) → leb m.0 (largest_e_in Y) ≡ x → TaskGives R ts l t (task_with v e m (took_vertices AllTaken (length Y) (vertices_record Y))
+      go : (x : Bool) → leb m.0 (largest_e_in Y) ≡ x → TaskGives R ts l t (task_with v e m (vertices_record Y)
           (edge_lines v (vertices_record Y) e (drop (v * part_bytes) t)))
       go true h = rw (same, h) (with_covered R Y ly (q ∙ rw h))
       go false h =
@@ -109,25 +108,24 @@ module _ (ts : List Meant.Task) (l v e : ℕ) (m : Ticks) (t : List ℕ) (some :
 
 plain_reach : (v e : ℕ) (m : Ticks) (t : List ℕ) → v ≤ most_vertices → e ≤ most_edges → TaskReach t (plain_lines v e m t)
 unfolding plain_lines
-plain_reach v e m t v_in e_in =
-    go a.outcome refl (covers v m a.vertices) refl b.outcome refl
-    (vertices_reach 0 (replicate most_vertices no_vertex) v t)
-    (edges_reach v a.vertices 0 (replicate most_edges no_edge) 0 e (drop (v * part_bytes) t))
+plain_reach v e m t v_in e_in = go (vertex_lines v t) (vertices_reach 0 (replicate most_vertices no_vertex) v t)
   where
-    a : VertexLines
-    a = vertex_lines v t
+    with_mask : (vs : List Vertex) (b : Result (List Edge) Stopped) → v * part_bytes ≤ length t → Reach (v + 0) e (drop (v * part_bytes) t) b
+        → (x : Bool) → covers v m vs ≡ x → TaskReach t (task_with v e m vs b)
+    with_mask vs b l r false q = rw q (stopped_reach t OutOfBounds (v - 1) (omega arith))
+    with_mask vs (Err s) l r true q = rw q (stopped_reach t s.refusal s.count (omega (arith, r.few s refl)))
+    with_mask vs (Ok es) l r true q =
+        rw q (record {
+          few = λ a z. (let c : v + e ≡ a.count = cc in omega arith);
+          room = λ a z. (let c : (v + e) * part_bytes ≡ a.bytes = cc in omega (arith, r.room es refl, length-drop (v * part_bytes) t));
+          stops = λ s z. absurd cc;
+        })
 
-    b : EdgeLines
-    b = edge_lines v a.vertices e (drop (v * part_bytes) t)
-
-    go : (x : Outcome) → a.outcome ≡ x → (y : Bool) → covers v m a.vertices ≡ y → (z : Outcome) → b.outcome ≡ z
-        → Reach 0 v t a.count a.outcome → Reach 0 e (drop (v * part_bytes) t) b.count b.outcome
-        → TaskReach t (task_with v e m a b)
-    go (StoppedBy w) p y c z q r s = rw p (stopped_reach t w a.count (omega (arith, r.few)))
-    go AllTaken p false c z q r s = rw (p, c) (stopped_reach t OutOfBounds (v - 1) (omega arith))
-    go AllTaken p true c (StoppedBy w) q r s = rw (p, c, q) (stopped_reach t w (v + b.count) (omega (arith, s.few)))
-    go AllTaken p true c AllTaken q r s =
-        rw (p, c, q) (record { few = omega arith; room = λ z. omega (arith, r.room p, s.room q, length-drop (v * part_bytes) t) })
+    go : (a : Result (List Vertex) Stopped) → Reach 0 v t a → TaskReach t (part_then a (λ vs. task_with v e m vs (edge_lines v vs e (drop (v * part_bytes) t))))
+    go (Err s) r = stopped_reach t s.refusal s.count (omega (arith, r.few s refl))
+    go (Ok vs) r =
+        let s = drop (v * part_bytes) t in
+        with_mask vs (edge_lines v vs e s) (r.room vs refl) (edges_reach v vs 0 (replicate most_edges no_edge) 0 e s) (covers v m vs) refl
 
 -- ---- by the task's own line
 

@@ -1,9 +1,9 @@
 -- A vertex's line, and the lines of a task's vertices, are read as they mean.
-use mathlib.Core.Path.{◌≡◌, refl, ap, ◌∙◌}
+use mathlib.Core.Path.{◌≡◌, refl, sym, ap, ◌∙◌}
 use Prim.Native.Nat.{ℕ, zero, suc, ◌+◌, ◌*◌, ◌≤◌}
 use native.Mathlib.Omega.{arith}
 use mathlib.Core.List.{List, [], ◌∷◌, ◌++◌}
-use lib.ListN.{length, length-append, drop, set}
+use lib.ListN.{length, length-append, length-set, drop, set}
 use Rattle.meaning.specs.Bounds.{most_vertices}
 use Rattle.meaning.specs.Table as Meant
 use Rattle.meaning.specs.Text.{Reading, unreadable}
@@ -12,24 +12,23 @@ use Rattle.kinds.specs.Numbers.{refusal_number}
 use Rattle.table.specs.declared.Vertex.{Vertex}
 use Rattle.table.specs.Record.{no_vertex, vertex_record, vertex_of}
 use Rattle.table.specs.Inner.{vertices_record}
-use Rattle.frames.specs.declared.VertexLine.{VertexLine}
-use Rattle.frames.specs.declared.VertexLine.TheVariants.{VertexTaken, VertexRefused}
-use Rattle.lines.specs.declared.VertexLines.{VertexLines}
-use Rattle.lines.specs.declared.Outcome.TheVariants.{AllTaken, StoppedBy}
+use Rattle.std.specs.Prelude.{Result, Ok, Err}
+use Rattle.lines.specs.declared.Stopped.{Stopped}
 use Rattle.frames.specs.Frames.{part_bytes, vertex_line}
-use Rattle.lines.specs.Parts.{took_vertices, vertices_on}
-use Rattle.frames.proofs.VertexRead.{vertex_gives, vertex_behind, vertex-read, vertex-long}
+use Rattle.lines.specs.Parts.{stopped, vertices_on}
+use Rattle.frames.proofs.LineRead.{gives}
+use Rattle.frames.proofs.VertexRead.{vertex_behind, vertex-read, vertex-long}
 use Rattle.lines.proofs.Reach.{drop-part, Reach, reach_none, reach_stopped, reach_more}
 use Rattle.lines.proofs.Padded.{padded-set}
 
 -- ---- the lines of a task's vertices
 
 -- what becomes of the reading R behind a task's line l: it goes on behind the last of the vertices Y, with `rest` to read, or it ends at one of their lines
-pub data VerticesGive (R : Reading) (ts : List Meant.Task) (m ne l v : ℕ) (rest : List ℕ) : VertexLines → Type 0 where
+pub data VerticesGive (R : Reading) (ts : List Meant.Task) (m ne l v : ℕ) (rest : List ℕ) : Result (List Vertex) Stopped → Type 0 where
   all-vertices : (Y : List Meant.Vertex) → length Y ≡ v → R ≡ vertex_behind ts m [] ne (l + length Y) 0 Y rest
-      → VerticesGive R ts m ne l v rest (took_vertices AllTaken (length Y) (vertices_record Y))
-  vertices_stopped : (w : Refusal) (i : ℕ) (vs : List Vertex) → R ≡ unreadable (refusal_number w) (suc (l + i))
-      → VerticesGive R ts m ne l v rest (took_vertices (StoppedBy w) i vs)
+      → VerticesGive R ts m ne l v rest (Ok (vertices_record Y))
+  vertices_stopped : (w : Refusal) (i : ℕ) → R ≡ unreadable (refusal_number w) (suc (l + i))
+      → VerticesGive R ts m ne l v rest (Err (stopped w i))
 
 module _ (ts : List Meant.Task) (m ne l v : ℕ) where
   abbrev at : List Meant.Vertex → ℕ → ℕ → List ℕ → Reading
@@ -44,12 +43,12 @@ module _ (ts : List Meant.Task) (m ne l v : ℕ) where
   vertices_run (suc k) X t e h = go (vertex_line t) refl (λ Y s q. vertices_run k Y s q h)
     where
       read_here : at X (suc k) (l + length X) t
-          ≡ vertex_gives (vertex_line t) (suc (l + length X)) (λ x. at (X ++ (vertex_of x ∷ [])) k (suc (l + length X)) (drop part_bytes t))
+          ≡ gives (vertex_line t) (suc (l + length X)) (λ x. at (X ++ (vertex_of x ∷ [])) k (suc (l + length X)) (drop part_bytes t))
       read_here = vertex-read ts m X [] k ne (suc (l + length X)) t
 
-      go : (x : VertexLine) → vertex_line t ≡ x → ((Y : List Meant.Vertex) (s : List ℕ) → length Y + k ≡ v → Runs k Y s) → Runs (suc k) X t
-      go (VertexRefused w) q ih = rw q (vertices_stopped w (length X) (vertices_record X) (read_here ∙ rw q))
-      go (VertexTaken x) q ih =
+      go : (x : Result Vertex Refusal) → vertex_line t ≡ x → ((Y : List Meant.Vertex) (s : List ℕ) → length Y + k ≡ v → Runs k Y s) → Runs (suc k) X t
+      go (Err w) q ih = rw q (vertices_stopped w (length X) (read_here ∙ rw q))
+      go (Ok x) q ih =
           let Y : List Meant.Vertex = X ++ (vertex_of x ∷ []) in
           let a : length Y ≡ length X + 1 = length-append X (vertex_of x ∷ []) in
           let b : set (vertices_record X) (length X) x ≡ vertices_record Y = padded-set most_vertices no_vertex vertex_record X (vertex_of x) (omega arith) in
@@ -63,13 +62,25 @@ module _ (ts : List Meant.Task) (m ne l v : ℕ) where
 -- ---- how far they reach
 
 abbrev Reaches : ℕ → List Vertex → ℕ → List ℕ → Type 0
-Reaches i vs k t = Reach i k t (vertices_on i vs k t).count (vertices_on i vs k t).outcome
+Reaches i vs k t = Reach i k t (vertices_on i vs k t)
 
 pub vertices_reach : (i : ℕ) (vs : List Vertex) (k : ℕ) (t : List ℕ) → Reaches i vs k t
 unfolding vertices_on
-vertices_reach i vs zero t = reach_none i t AllTaken
+vertices_reach i vs zero t = reach_none i t vs
 vertices_reach i vs (suc k) t = go (vertex_line t) refl (λ x. vertices_reach (i + 1) (set vs i x) k (drop part_bytes t))
   where
-    go : (x : VertexLine) → vertex_line t ≡ x → ((y : Vertex) → Reaches (i + 1) (set vs i y) k (drop part_bytes t)) → Reaches i vs (suc k) t
-    go (VertexRefused w) q ih = rw q (reach_stopped i (suc k) t w)
-    go (VertexTaken x) q ih = rw q (reach_more i k t _ _ (vertex-long t x q) (ih x))
+    go : (x : Result Vertex Refusal) → vertex_line t ≡ x → ((y : Vertex) → Reaches (i + 1) (set vs i y) k (drop part_bytes t)) → Reaches i vs (suc k) t
+    go (Err w) q ih = rw q (reach_stopped i (suc k) t w)
+    go (Ok x) q ih = rw q (reach_more i k t _ (vertex-long t x q) (ih x))
+
+-- ---- how many places they leave
+
+pub vertices_places : (i : ℕ) (vs : List Vertex) (k : ℕ) (t : List ℕ) {us : List Vertex} → vertices_on i vs k t ≡ Ok us → length us ≡ length vs
+unfolding vertices_on
+vertices_places i vs zero t {us} e = let q : vs ≡ us = cc in rw q
+vertices_places i vs (suc k) t {us} e = go (vertex_line t) refl (λ x. vertices_places (i + 1) (set vs i x) k (drop part_bytes t))
+  where
+    go : (x : Result Vertex Refusal) → vertex_line t ≡ x
+        → ((y : Vertex) → vertices_on (i + 1) (set vs i y) k (drop part_bytes t) ≡ Ok us → length us ≡ length (set vs i y)) → length us ≡ length vs
+    go (Err w) q ih = absurd (let z : Err (stopped w i) ≡ Ok us = sym (rw q) ∙ e in cc)
+    go (Ok x) q ih = ih x (sym (rw q) ∙ e) ∙ length-set vs i x

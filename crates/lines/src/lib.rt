@@ -10,177 +10,121 @@
 
 ghost use Rattle.std.specs.Prelude.{◌≡◌, ◌≤◌, ◌<◌, length, drop};
 ghost use Rattle.meaning.specs.Bounds.{most_vertices, most_edges};
-ghost use Rattle.digits.specs.Digits.{Worths};
 ghost use Rattle.table.specs.Inner.{edge_cells};
 ghost use Rattle.frames.specs.Frames.{form_to};
-ghost use Rattle.lines.specs.Parts.{vertex_lines, edge_lines, stopped_task, plain_lines, link_lines, task_lines};
+ghost use Rattle.lines.specs.Parts.{behind, vertex_lines, edge_lines, plain_lines, link_lines, task_lines, filled, taken_with};
 
 use bounds::{MOST_EDGES, MOST_VERTICES};
-use frames::{
-    EdgeLine, Form, Head, LINK_BYTES, LinkLine, PART_BYTES, VertexLine, edge_line, link_line,
-    vertex_line,
-};
+use digits::Digits;
+use frames::{Form, Head, LINK_BYTES, PART_BYTES, edge_line, link_line, vertex_line};
 use kinds::{Refusal, Ticks, VertexNumber};
 use rules::{least_after, mask_covered};
 use table::{Edge, Task, Vertex};
 
-// Whether all lines of a part were taken, or the refusal of the first that was not.
-#[derive(Clone, Copy)]
-pub enum Outcome {
-    AllTaken,
-    StoppedBy(Refusal),
-}
-
-// `count` lines were taken.
-#[derive(Clone, Copy)]
-pub struct VertexLines {
-    pub outcome: Outcome,
+// The refusal of the first line that was not taken, behind `count` of the task's that were.
+#[derive(Clone, Copy, PartialEq, Eq)]
+pub struct Stopped {
+    pub refusal: Refusal,
     pub count: usize,
-    pub vertices: [Vertex; MOST_VERTICES],
 }
 
-#[derive(Clone, Copy)]
-pub struct EdgeLines {
-    pub outcome: Outcome,
-    pub count: usize,
-    pub edges: [Edge; MOST_EDGES],
-}
-
-// The lines after a task's own, and their bytes. No task where they stop.
+// The lines after a task's own, and their bytes.
 #[derive(Clone, Copy)]
 pub struct TaskLines {
-    pub outcome: Outcome,
     pub count: usize,
     pub bytes: usize,
-    pub task: Task,
 }
 
-// The lines of n vertices.
-pub(crate) fn read_vertices(w: &[u16; 256], text: &[u8], from: usize, n: usize) -> VertexLines
-    requires { (from ≤ length text.now) × (n ≤ most_vertices) × Worths w.now }
-    ensures { result ≡ vertex_lines n (drop from text.now) }
+// What a line gives, behind `count` of the task's.
+fn behind<T>(count: usize, line: Result<T, Refusal>) -> Result<T, Stopped>
+    ensures { result ≡ behind count line }
 {
-    let none = table::no_vertex();
-    let mut vertices = [none; MOST_VERTICES];
-    let mut at = from;
-    let mut i = 0;
-    while i < n {
-        let next = vertex_line(w, &text[at..]);
-        match next {
-            VertexLine::VertexRefused(refusal) => {
-                return VertexLines {
-                    outcome: Outcome::StoppedBy(refusal),
-                    count: i,
-                    vertices,
-                };
-            }
-            VertexLine::VertexTaken(x) => {
-                vertices[i] = x;
-                i += 1;
-                at += PART_BYTES;
-            }
-        }
-    }
-    VertexLines {
-        outcome: Outcome::AllTaken,
-        count: i,
-        vertices,
+    match line {
+        Ok(taken) => Ok(taken),
+        Err(refusal) => Err(Stopped { refusal, count }),
     }
 }
 
-// The lines of m edges, in a task of n vertices.
-pub(crate) fn read_edges(
-    w: &[u16; 256],
+// The lines of n vertices. Three loops and no common one: an edge's line is held to the vertices and the edge before it, a vertex's of a ring or a gear
+// table fills two lists, so that a step given to a common loop would hold all that the loop does.
+fn read_vertices(
+    digits: &Digits,
     text: &[u8],
     from: usize,
     n: usize,
-    vertices: [Vertex; MOST_VERTICES],
-    m: usize,
-) -> EdgeLines
-    requires { (from ≤ length text.now) × (n ≤ most_vertices) × (m ≤ most_edges) × Worths w.now }
-    ensures { result ≡ edge_lines n vertices m (drop from text.now) }
+    vertices: &mut [Vertex; MOST_VERTICES],
+) -> Result<(), Stopped>
+    requires { (from ≤ length text.now) × (n ≤ most_vertices) }
+    ensures { filled result vertices.new ≡ vertex_lines n (drop from text.now) }
 {
-    let none = table::no_edge();
-    let mut edges = [none; MOST_EDGES];
-    let mut least = 0;
-    let mut at = from;
-    let mut i = 0;
-    while i < m {
-        let next = edge_line(w, &text[at..], n, vertices, least);
-        match next {
-            EdgeLine::EdgeRefused(refusal) => {
-                return EdgeLines {
-                    outcome: Outcome::StoppedBy(refusal),
-                    count: i,
-                    edges,
-                };
-            }
-            EdgeLine::EdgeTaken(x) => {
-                least = least_after(x.from.0, x.to.0);
-                edges[i] = x;
-                i += 1;
-                at += PART_BYTES;
-            }
-        }
+    let none = table::no_vertex();
+    *vertices = [none; MOST_VERTICES];
+    for i in 0..n {
+        let line = vertex_line(digits, &text[from + i * PART_BYTES..]);
+        vertices[i] = behind(i, line)?;
     }
-    EdgeLines {
-        outcome: Outcome::AllTaken,
-        count: i,
-        edges,
-    }
+    Ok(())
 }
 
-pub(crate) fn stopped(refusal: Refusal, count: usize) -> TaskLines
-    ensures { result ≡ stopped_task refusal count }
+// The lines of m edges, in a task of n vertices, whose lines are before them.
+fn read_edges(
+    digits: &Digits,
+    text: &[u8],
+    from: usize,
+    n: usize,
+    vertices: &[Vertex; MOST_VERTICES],
+    m: usize,
+    edges: &mut [Edge; MOST_EDGES],
+) -> Result<(), Stopped>
+    requires { (from ≤ length text.now) × (n ≤ most_vertices) × (m ≤ most_edges) }
+    ensures { filled result edges.new ≡ edge_lines n vertices.now m (drop from text.now) }
 {
-    let task = table::no_task();
-    TaskLines {
-        outcome: Outcome::StoppedBy(refusal),
-        count,
-        bytes: 0,
-        task,
+    let none = table::no_edge();
+    *edges = [none; MOST_EDGES];
+    let mut least = 0;
+    for i in 0..m {
+        let line = edge_line(digits, &text[from + i * PART_BYTES..], n, vertices, least);
+        let edge = behind(n + i, line)?;
+        least = least_after(edge.from.0, edge.to.0);
+        edges[i] = edge;
     }
+    Ok(())
 }
 
 // The lines of v vertices and e edges, in a task with the masked length m.
-pub(crate) fn read_plain(
-    w: &[u16; 256],
+fn read_plain(
+    digits: &Digits,
     text: &[u8],
     from: usize,
     v: usize,
     e: usize,
     m: Ticks,
-) -> TaskLines
-    requires { (from ≤ length text.now) × (1 ≤ v) × (v ≤ most_vertices) × (e ≤ most_edges) × Worths w.now }
-    ensures { result ≡ plain_lines v e m (drop from text.now) }
+    task: &mut Task,
+) -> Result<TaskLines, Stopped>
+    requires { (from ≤ length text.now) × (1 ≤ v) × (v ≤ most_vertices) × (e ≤ most_edges) }
+    ensures { taken_with result task.new ≡ plain_lines v e m (drop from text.now) }
 {
-    let a = read_vertices(w, text, from, v);
-    let first = a.outcome;
-    if let Outcome::StoppedBy(refusal) = first {
-        return stopped(refusal, a.count);
+    read_vertices(digits, text, from, v, &mut task.vertices)?;
+    let largest = table::largest_e(&task.vertices[..v]);
+    if !mask_covered(u32::from(m.0), u32::from(largest.0)) {
+        return Err(Stopped {
+            refusal: Refusal::OutOfBounds,
+            count: v - 1,
+        });
     }
-    let vertices = a.vertices;
-    let largest = table::largest_e(vertices, v);
-    if !mask_covered(m.0 as u32, largest.0 as u32) {
-        return stopped(Refusal::OutOfBounds, v - 1);
-    }
-    let b = read_edges(w, text, from + v * PART_BYTES, v, vertices, e);
-    let second = b.outcome;
-    if let Outcome::StoppedBy(refusal) = second {
-        return stopped(refusal, v + b.count);
-    }
-    let edges = b.edges;
-    let task = table::task_of(m, v as u16, e as u16, vertices, edges);
-    TaskLines {
-        outcome: Outcome::AllTaken,
+    let place = from + v * PART_BYTES;
+    read_edges(digits, text, place, v, &task.vertices, e, &mut task.edges)?;
+    task.m = m;
+    task.nv = v as u16;
+    task.ne = e as u16;
+    Ok(TaskLines {
         count: v + e,
         bytes: (v + e) * PART_BYTES,
-        task,
-    }
+    })
 }
 
 // Where vertex i of n leads in a ring, and in a gear table.
-pub(crate) fn leads(form: Form, n: usize, i: usize) -> usize
+fn leads(form: Form, n: usize, i: usize) -> usize
     requires { i < n }
     ensures { result ≡ form_to form n i }
 {
@@ -195,7 +139,7 @@ pub(crate) fn leads(form: Form, n: usize, i: usize) -> usize
 }
 
 // The only edge out of vertex i of n, with the separation p.
-pub(crate) fn link_edge(form: Form, n: usize, i: usize, p: Ticks) -> Edge
+fn link_edge(form: Form, n: usize, i: usize, p: Ticks) -> Edge
     requires { (i < n) × (n ≤ most_vertices) }
     ensures { result ≡ edge_cells i (form_to form n i) p.0 }
 {
@@ -210,54 +154,49 @@ pub(crate) fn link_edge(form: Form, n: usize, i: usize, p: Ticks) -> Edge
 }
 
 // The lines of the n vertices of a ring or a gear table.
-pub(crate) fn read_links(
-    w: &[u16; 256],
+fn read_links(
+    digits: &Digits,
     text: &[u8],
     from: usize,
     form: Form,
     n: usize,
-) -> TaskLines
-    requires { (from ≤ length text.now) × (n ≤ most_vertices) × Worths w.now }
-    ensures { result ≡ link_lines (form_to form n) n (drop from text.now) }
+    task: &mut Task,
+) -> Result<TaskLines, Stopped>
+    requires { (from ≤ length text.now) × (n ≤ most_vertices) }
+    ensures { taken_with result task.new ≡ link_lines (form_to form n) n (drop from text.now) }
 {
     let no_vertex = table::no_vertex();
     let no_edge = table::no_edge();
-    let mut vertices = [no_vertex; MOST_VERTICES];
-    let mut edges = [no_edge; MOST_EDGES];
-    let mut at = from;
-    let mut i = 0;
-    while i < n {
-        let next = link_line(w, &text[at..]);
-        match next {
-            LinkLine::LinkRefused(refusal) => {
-                return stopped(refusal, i);
-            }
-            LinkLine::LinkTaken(vertex, p) => {
-                let edge = link_edge(form, n, i, p);
-                vertices[i] = vertex;
-                edges[i] = edge;
-                i += 1;
-                at += LINK_BYTES;
-            }
-        }
+    task.vertices = [no_vertex; MOST_VERTICES];
+    task.edges = [no_edge; MOST_EDGES];
+    for i in 0..n {
+        let line = link_line(digits, &text[from + i * LINK_BYTES..]);
+        let link = behind(i, line)?;
+        task.vertices[i] = link.vertex;
+        task.edges[i] = link_edge(form, n, i, link.p);
     }
-    let task = table::task_of(Ticks(0), n as u16, n as u16, vertices, edges);
-    TaskLines {
-        outcome: Outcome::AllTaken,
+    task.m = Ticks(0);
+    task.nv = n as u16;
+    task.ne = n as u16;
+    Ok(TaskLines {
         count: n,
         bytes: n * LINK_BYTES,
-        task,
-    }
+    })
 }
 
-// The lines of a task whose own says `head`.
-pub fn read_task(w: &[u16; 256], text: &[u8], from: usize, head: Head) -> TaskLines
-    requires { (from ≤ length text.now) × (1 ≤ head.v) × (head.v ≤ most_vertices) × (head.e ≤ most_edges) × Worths w.now }
-    ensures { result ≡ task_lines head (drop from text.now) }
+// The lines of a task whose own says `head`, into `task`, whatever it held: in a `Result` it would be copied on its way to the table.
+pub fn read_task(
+    digits: &Digits,
+    text: &[u8],
+    from: usize,
+    head: Head,
+    task: &mut Task,
+) -> Result<TaskLines, Stopped>
+    requires { (from ≤ length text.now) × (1 ≤ head.v) × (head.v ≤ most_vertices) × (head.e ≤ most_edges) }
+    ensures { taken_with result task.new ≡ task_lines head (drop from text.now) }
 {
-    let form = head.form;
-    if let Form::Plain = form {
-        return read_plain(w, text, from, head.v, head.e, head.m);
+    match head.form {
+        Form::Plain => read_plain(digits, text, from, head.v, head.e, head.m, task),
+        form => read_links(digits, text, from, form, head.v, task),
     }
-    read_links(w, text, from, form, head.v)
 }

@@ -11,11 +11,10 @@ use Rattle.meaning.proofs.Wrote.{front-set}
 use Rattle.table.specs.Record.{padded}
 use Rattle.lister.specs.declared.Path.{Path}
 use Rattle.lister.specs.declared.PathNumber.{PathNumber}
-use Rattle.lister.specs.declared.place.Sought.{Sought}
-use Rattle.lister.specs.declared.place.Sought.TheVariants.{Here, Behind}
+use Rattle.std.specs.declared.ops.ControlFlow.TheVariants.{Break, Continue}
 use Rattle.columns.specs.Columns.{SoundColumns}
 use Rattle.ways.specs.Ways.{ways, all_ways, on_by, vertices_by, path_by}
-use Rattle.lister.specs.Place.{Found, path_record}
+use Rattle.lister.specs.Place.{Found, Sought, path_record}
 use Rattle.ways.proofs.Taken.{way_short}
 use Rattle.ways.proofs.Ways.{all_ways_none, all_ways_more}
 use Rattle.lister.proofs.Places.{get_or-on_by, not_both, same_length, same_place}
@@ -50,7 +49,7 @@ module _ {start to p : List ℕ} {n d i : ℕ} {cs : List ℕ} {left v : ℕ} (g
   on_len = length-map (ways start to p v d) (λ (x : List ℕ). v ∷ x)
 
   pub passing_on : v < n → (B : List ℕ) (s : Sought) (x : PathNumber)
-      → Found start to p v d 0 left cs B s → s ≡ Behind x → Passing start to p n d i B x.0 (v + 1)
+      → Found start to p v d 0 left cs B s → s ≡ Continue x → Passing start to p n d i B x.0 (v + 1)
   passing_on h B s x f e = elim (dec_lt left (length (ways start to p v d))) [
     | yes y ↦ absurd (not_both s (f.hit y).end e)
     | no y ↦
@@ -68,7 +67,7 @@ module _ {start to p : List ℕ} {n d i : ℕ} {cs : List ℕ} {left v : ℕ} (g
   ]
 
   pub passing_found : SoundColumns start to p → n ≤ most_vertices → 0 < d → d ≤ largest_d → v < n
-      → (B : List ℕ) (s : Sought) (len : ℕ) → Found start to p v d 0 left cs B s → s ≡ Here len
+      → (B : List ℕ) (s : Sought) (len : ℕ) → Found start to p v d 0 left cs B s → s ≡ Break len
       → ◌≡◌ {A = Path} (record { vertices = B; len = len }) (path_record (path_by to (get_or (all_ways start to p d 0 n) i [])))
   passing_found so hn hd ld h B s len f e = elim (dec_lt left (length (ways start to p v d))) [
     | no y ↦ absurd (not_both s e (f.miss (omega arith)).left)

@@ -6,6 +6,8 @@ use mathlib.Core.List.{List}
 use lib.ListN.{length, get_or}
 use Rattle.meaning.specs.Bounds.{most_vertices}
 use Rattle.columns.specs.Columns.{SoundColumns}
+use Rattle.columns.specs.declared.Out.{Out}
+use Rattle.columns.specs.Only.{Alone}
 use Rattle.ways.specs.Ways.{ways}
 use Rattle.ways.proofs.Ways.{by_edges, step_no, length_yes, by_edges_none, length_ways}
 use Rattle.ways.proofs.Turns.{Turn, turn_first, turn_next, edge_on, lone-length}
@@ -16,12 +18,20 @@ use Rattle.lister.specs.Follow.{Followed}
 pub followed_none : (start to p : List ℕ) (v r : ℕ) → v < most_vertices → 0 < r → Followed start to p v r v r
 followed_none start to p v r h l = record { vertex = h; some = l; fewer = omega arith; same = refl }
 
-pub followed_on : {start to p : List ℕ} → SoundColumns start to p → {v r u s j k : ℕ} → Followed start to p v r u s → Turn start u j k
-    → k ≡ get_or start u 0 → j ≡ k + 1 → get_or p k 0 < s → Followed start to p v r (get_or to k 0) (s - get_or p k 0)
-followed_on so {u = u} {s} {j} {k} f g ek one room =
-    let w = edge_on so g (omega arith) in
-    let a = f.fewer in
-    record { vertex = w.1; some = omega arith; fewer = omega arith; same = lone-length so u s j k g f.some ek one room ∙ f.same }
+pub followed_on : {start to p : List ℕ} → SoundColumns start to p → {v r u s : ℕ} {x : Out} → Followed start to p v r u s
+    → Alone start to p u s x → Followed start to p v r x.to.number.0 (s - x.p.0)
+followed_on {start} {to} {p} so {u = u} {s} f a =
+    let k = get_or start u 0 in
+    let g = turn_first so u (get_or start (u + 1) 0) k f.vertex refl refl in
+    let w = edge_on so g (omega (arith, a.one)) in
+    let room : get_or p k 0 < s = omega (arith, a.takes, a.less) in
+    let fewer = f.fewer in
+    rw (a.leads, a.takes) (record {
+      vertex = w.1;
+      some = omega arith;
+      fewer = omega arith;
+      same = lone-length so u s (get_or start (u + 1) 0) k g f.some refl a.one room ∙ f.same;
+    })
 
 -- ---- `count_from`
 
@@ -74,8 +84,5 @@ module _ {start to p : List ℕ} {v r cap end k sum : ℕ} (g : Counting start t
     all : length (ways start to p w s) ≡ max 1 sum
     all = let e = f.same in let c = g.count in omega (arith, ap length (by_edges_none start to p r k end hk), all_ways_lem so)
 
-    pub counted_none : sum ≡ 0 → 1 ≡ min cap (length (ways start to p w s))
-    counted_none z = let b = g.below in omega (arith, all)
-
-    pub counted_some : (sum ≡ 0 → ⊥) → sum ≡ min cap (length (ways start to p w s))
-    counted_some z = let b = g.below in omega (arith, all)
+    pub counted : max sum 1 ≡ min cap (length (ways start to p w s))
+    counted = let b = g.below in omega (arith, all)

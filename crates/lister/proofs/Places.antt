@@ -9,12 +9,11 @@ use lib.ListN.{length, get_or, set, length-map, get_or-append}
 use lib.Seq.{sets, get_or-append-add}
 use Rattle.meaning.specs.Bounds.{most_vertices}
 use Rattle.lister.specs.declared.PathNumber.{PathNumber}
-use Rattle.lister.specs.declared.place.Sought.{Sought}
-use Rattle.lister.specs.declared.place.Sought.TheVariants.{Here, Behind}
+use Rattle.std.specs.declared.ops.ControlFlow.TheVariants.{Break, Continue}
 use Rattle.columns.specs.Columns.{SoundColumns}
 use Rattle.ways.specs.Ways.{ways, on_by, or_stop, vertices_by}
 use Rattle.ways.proofs.Turns.{Turn, turn_first, turn_next}
-use Rattle.lister.specs.Place.{Found}
+use Rattle.lister.specs.Place.{Found, Sought}
 use Rattle.meaning.proofs.Stores.{set-sets}
 use Rattle.ways.proofs.Ways.{by_edges, step_no, step_yes, length_yes, by_edges_none, ways_step, or_stop_some, length_zero}
 
@@ -44,21 +43,21 @@ seeking_none {start} {to} {p} so v r i end k A hv hr he h = record {
   cells = refl;
 }
 
-pub not_both : (s : Sought) {n : ℕ} {x : PathNumber} → s ≡ Here n → s ≡ Behind x → ⊥
+pub not_both : (s : Sought) {n : ℕ} {x : PathNumber} → s ≡ Break n → s ≡ Continue x → ⊥
 not_both s a b = let z : ◌≡◌ {A = ℕ} 0 1 = cc in omega arith
 
-behind : {n m : ℕ} → n ≡ m → ◌≡◌ {A = Sought} (Behind (record { 0 = n })) (Behind (record { 0 = m }))
-behind e = ap (λ (n : ℕ). Behind (record { 0 = n })) e
+behind : {n m : ℕ} → n ≡ m → ◌≡◌ {A = Sought} (Continue (record { 0 = n })) (Continue (record { 0 = m }))
+behind e = ap (λ (n : ℕ). Continue (record { 0 = n })) e
 
 -- the length or the place
 abbrev number_in : Sought → ℕ
-number_in (Here n) = n
-number_in (Behind x) = x.0
+number_in (Break n) = n
+number_in (Continue x) = x.0
 
-pub same_length : (s : Sought) {n m : ℕ} → s ≡ Here n → s ≡ Here m → n ≡ m
+pub same_length : (s : Sought) {n m : ℕ} → s ≡ Break n → s ≡ Break m → n ≡ m
 same_length s a b = ap number_in (sym a ∙ b)
 
-pub same_place : (s : Sought) {x y : PathNumber} → s ≡ Behind x → s ≡ Behind y → x.0 ≡ y.0
+pub same_place : (s : Sought) {x y : PathNumber} → s ≡ Continue x → s ≡ Continue y → x.0 ≡ y.0
 same_place s a b = ap number_in (sym a ∙ b)
 
 module _ {start to p : List ℕ} {v r i end : ℕ} {A cs : List ℕ} {k left : ℕ} (g : Seeking start to p v r i end A cs k left) where
@@ -91,7 +90,7 @@ module _ {start to p : List ℕ} {v r i end : ℕ} {A cs : List ℕ} {k left : �
     on_length = length-map on (λ (x : List ℕ). k ∷ x)
 
     pub seeking_on : (depth : ℕ) (B : List ℕ) (s : Sought) (x : PathNumber) → Found start to p (get_or to k 0) (r - get_or p k 0) depth left cs B s
-        → s ≡ Behind x → Seeking start to p v r i end A B (k + 1) x.0
+        → s ≡ Continue x → Seeking start to p v r i end A B (k + 1) x.0
     seeking_on depth B s x f e = elim (dec_lt left (length on)) [
       | yes y ↦ absurd (not_both s (f.hit y).end e)
       | no y ↦
@@ -113,7 +112,7 @@ module _ {start to p : List ℕ} {v r i end : ℕ} {A cs : List ℕ} {k left : �
     ]
 
     pub seeking_found : (depth : ℕ) (B : List ℕ) (s : Sought) (n : ℕ) → Found start to p (get_or to k 0) (r - get_or p k 0) (depth + 1) left cs B s
-        → s ≡ Here n → SoundColumns start to p → Found start to p v r depth i A (set B depth v) (Here n)
+        → s ≡ Break n → SoundColumns start to p → Found start to p v r depth i A (set B depth v) (Break n)
     seeking_found depth B s n f e so = elim (dec_lt left (length on)) [
       | no y ↦ absurd (not_both s e (f.miss (omega arith)).left)
       | yes y ↦
@@ -131,7 +130,7 @@ module _ {start to p : List ℕ} {v r i end : ℕ} {A cs : List ℕ} {k left : �
           let z : depth + 1 + 1 + length H ≡ depth + 1 + suc (length H) = omega arith in
           record {
             hit = λ x. record {
-              end = ap Here (same_length s e m.end ∙ z ∙ ap (λ (b : List ℕ). depth + 1 + length b) (sym w));
+              end = ap Break (same_length s e m.end ∙ z ∙ ap (λ (b : List ℕ). depth + 1 + length b) (sym w));
               cells = ap (λ (b : List ℕ). set b depth v)
                   (m.cells ∙ ap₂ (λ (b : List ℕ) (j : ℕ). sets b j (vertices_by to (get_or to k 0) H)) g.cells (add-one depth))
                   ∙ set-sets (vertices_by to (get_or to k 0) H) A (suc depth) depth v (omega arith)
@@ -145,7 +144,7 @@ module _ {start to p : List ℕ} {v r i end : ℕ} {A cs : List ℕ} {k left : �
     total : left + length (by_edges start to p r (get_or start v 0) end) ≡ i
     total = omega (arith, g.count, ap length (by_edges_none start to p r k end hk))
 
-    pub past_some : (depth : ℕ) → (left ≡ i → ⊥) → Found start to p v r depth i A cs (Behind (record { 0 = left }))
+    pub past_some : (depth : ℕ) → (left ≡ i → ⊥) → Found start to p v r depth i A cs (Continue (record { 0 = left }))
     past_some depth ne =
         let t = total in
         let e : length (ways start to p v r) ≡ length (by_edges start to p r (get_or start v 0) end) =
@@ -158,7 +157,7 @@ module _ {start to p : List ℕ} {v r i end : ℕ} {A cs : List ℕ} {k left : �
     alone : left ≡ i → ways start to p v r ≡ [] ∷ []
     alone h = let t = total in step so ∙ ap or_stop (length_zero (by_edges start to p r (get_or start v 0) end) (omega arith))
 
-    pub here : (depth : ℕ) → left ≡ i → i ≡ 0 → Found start to p v r depth i A (set cs depth v) (Here (depth + 1))
+    pub here : (depth : ℕ) → left ≡ i → i ≡ 0 → Found start to p v r depth i A (set cs depth v) (Break (depth + 1))
     here depth h z =
         let e = alone h in
         let el = ap length e in
@@ -166,13 +165,13 @@ module _ {start to p : List ℕ} {v r i end : ℕ} {A cs : List ℕ} {k left : �
         let y : depth + 1 ≡ depth + 1 + 0 = omega arith in
         record {
           hit = λ x. record {
-            end = ap Here (y ∙ ap (λ (b : List ℕ). depth + 1 + length b) (sym w));
+            end = ap Break (y ∙ ap (λ (b : List ℕ). depth + 1 + length b) (sym w));
             cells = ap (λ (b : List ℕ). set b depth v) g.cells ∙ ap (λ (b : List ℕ). sets A depth (vertices_by to v b)) (sym w);
           };
           miss = λ x. absurd (omega arith);
         }
 
-    pub past_one : (depth : ℕ) → left ≡ i → 0 < i → Found start to p v r depth i A cs (Behind (record { 0 = i - 1 }))
+    pub past_one : (depth : ℕ) → left ≡ i → 0 < i → Found start to p v r depth i A cs (Continue (record { 0 = i - 1 }))
     past_one depth h z =
         let el = ap length (alone h) in
         record {

@@ -4,8 +4,9 @@ use Rattle.std.proofs.lemmas.List.Edits.{sets}
 use Rattle.meaning.specs.Bounds.{largest_d}
 use Rattle.table.specs.Record.{padded}
 use Rattle.lister.specs.declared.Path.{Path}
-use Rattle.lister.specs.declared.place.Sought.{Sought}
-use Rattle.lister.specs.declared.place.Sought.TheVariants.{Here, Behind}
+use Rattle.lister.specs.declared.PathNumber.{PathNumber}
+use Rattle.std.specs.declared.ops.ControlFlow.{ControlFlow}
+use Rattle.std.specs.declared.ops.ControlFlow.TheVariants.{Break, Continue}
 use Rattle.ways.specs.Ways.{ways, vertices_by}
 
 -- a path in an array of zeros, with its length
@@ -15,12 +16,16 @@ path_record w = record { vertices = padded largest_d 0 w; len = length w }
 
 -- ---- what `path_from` gives
 
+-- the path's end, or its place behind the paths that are there
+abbrev pub Sought : Type 0
+Sought = ControlFlow ℕ PathNumber
+
 pub record Hit (to : List ℕ) (v depth : ℕ) (h A B : List ℕ) (s : Sought) : Type 0 where
-  pub end : s ≡ Here (depth + 1 + length h)
+  pub end : s ≡ Break (depth + 1 + length h)
   pub cells : B ≡ sets A depth (vertices_by to v h)
 
 pub record Miss (i m : ℕ) (A B : List ℕ) (s : Sought) : Type 0 where
-  pub left : s ≡ Behind (record { 0 = i - m })
+  pub left : s ≡ Continue (record { 0 = i - m })
   pub cells : B ≡ A
 
 pub record Found (start to p : List ℕ) (v r depth i : ℕ) (A B : List ℕ) (s : Sought) : Type 0 where

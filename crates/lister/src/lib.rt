@@ -14,8 +14,8 @@ use bounds::LARGEST_D;
 #[derive(Clone, Copy)]
 pub struct PathNumber(pub usize);
 
-// A path kept by value: its vertex numbers, a byte each, zeros behind them, and how many they are. As in a task's columns they are plain numbers, so that
-// the array can be lent.
+// A path kept by value: its vertex numbers, a byte each, zeros behind them, and how many they are. An array with its length, since document 01 asks for
+// "a path kept by value in an array of [..] zeros with a length"; of plain numbers, as in a task's columns.
 #[derive(Clone, Copy)]
 pub struct Path {
     pub vertices: [u8; LARGEST_D],

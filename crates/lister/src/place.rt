@@ -1,98 +1,67 @@
 // "A path kept by value in an array of [..] zeros with a length, rebuilt from its place in the order." It has 1,000 of them since wish 7.
 ghost use Rattle.std.specs.Prelude.{◌≡◌, ◌+◌, ◌≤◌, ◌<◌, List, get_or};
-ghost use Rattle.meaning.specs.Bounds.{most_vertices, largest_d};
-ghost use Rattle.columns.specs.Columns.{SoundColumns};
+ghost use Rattle.meaning.specs.Bounds.{largest_d};
 ghost use Rattle.ways.specs.Ways.{most_counted, all_ways, path_by};
 ghost use Rattle.lister.specs.Place.{Found, path_record};
 
 use crate::{Path, PathNumber};
-use bounds::{LARGEST_D, MOST_EDGES, MOST_VERTICES};
-use columns::numbers::index;
+use bounds::LARGEST_D;
+use columns::{Columns, TaskVertex};
 use kinds::{Ticks, VertexNumber};
+use std::ops::ControlFlow;
 
-// The path is among those from a vertex: its length. It is behind them: its place there.
-#[derive(Clone, Copy)]
-enum Sought {
-    Here(usize),
-    Behind(PathNumber),
-}
-
-// The path of place i of those that go on from v with r ticks left goes to the cells from depth on.
+// The path of place i of those that go on from v with r ticks left goes to the cells from depth on: where it ends. It is behind them: its place there.
 fn path_from(
-    start: &[u8; MOST_VERTICES + 1],
-    to: &[u8; MOST_EDGES],
-    p: &[u16; MOST_EDGES],
+    columns: &Columns,
     cells: &mut [u8; LARGEST_D],
-    v: VertexNumber,
+    v: TaskVertex,
     r: Ticks,
     depth: usize,
     i: PathNumber,
-) -> Sought
-    requires sound_columns { SoundColumns start.now to.now p.now }
-    requires v_lt_most_vertices { (v.0 < most_vertices) × (0 < r.0) × (depth + r.0 ≤ largest_d) × (i.0 ≤ most_counted) }
-    ensures { Found start.now to.now p.now v.0 r.0 depth i.0 cells.old cells.new result }
+) -> ControlFlow<usize, PathNumber>
+    requires { (0 < r.0) × (depth + r.0 ≤ largest_d) × (i.0 ≤ most_counted) }
+    ensures { Found columns.now.start columns.now.to columns.now.p v.number.0 r.0 depth i.0 cells.old cells.new result }
 {
-    let at = v.0 as usize;
-    let end = index(start[at + 1]);
-    let mut k = index(start[at]);
     let mut left = i;
-    while k < end {
-        let q = Ticks(p[k]);
-        if r.0 <= q.0 {
-            k += 1;
+    for k in columns.first(v)..columns.end(v) {
+        let edge = columns.edge(k);
+        if r.0 <= edge.p.0 {
             continue;
         }
-        let next = VertexNumber(to[k]);
-        let rest = Ticks(r.0 - q.0);
-        let s = path_from(start, to, p, cells, next, rest, depth + 1, left);
-        match s {
-            Sought::Here(len) => {
-                cells[depth] = v.0;
-                return Sought::Here(len);
+        let rest = Ticks(r.0 - edge.p.0);
+        match path_from(columns, cells, edge.to, rest, depth + 1, left) {
+            ControlFlow::Break(len) => {
+                cells[depth] = v.number.0;
+                return ControlFlow::Break(len);
             }
-            Sought::Behind(place) => left = place,
+            ControlFlow::Continue(place) => left = place,
         }
-        k += 1;
     }
     if left.0 != i.0 {
-        return Sought::Behind(left);
+        return ControlFlow::Continue(left);
     }
     if i.0 == 0 {
-        cells[depth] = v.0;
-        return Sought::Here(depth + 1);
+        cells[depth] = v.number.0;
+        return ControlFlow::Break(depth + 1);
     }
-    Sought::Behind(PathNumber(i.0 - 1))
+    ControlFlow::Continue(PathNumber(i.0 - 1))
 }
 
-// The complete path of place i for horizon d; of length 0 where there is none.
-pub fn path_all(
-    start: &[u8; MOST_VERTICES + 1],
-    to: &[u8; MOST_EDGES],
-    p: &[u16; MOST_EDGES],
-    n: usize,
-    d: Ticks,
-    i: PathNumber,
-) -> Path
-    requires sound_columns { SoundColumns start.now to.now p.now }
-    requires n_le_most_vertices { (n ≤ most_vertices) × (0 < d.0) × (d.0 ≤ largest_d) × (i.0 ≤ most_counted) }
-    ensures { result ≡ path_record (path_by to.now (get_or (all_ways start.now to.now p.now d.0 0 n) i.0 List.[])) }
+// The complete path of place i for horizon d; of length 0 where there is none, and no Option, as `path_record` in this promise and in that of `path_at` has it.
+pub fn path_all(columns: &Columns, d: Ticks, i: PathNumber) -> Path
+    requires { (0 < d.0) × (d.0 ≤ largest_d) × (i.0 ≤ most_counted) }
+    ensures { result ≡ path_record (path_by columns.now.to (get_or (all_ways columns.now.start columns.now.to columns.now.p d.0 0 columns.now.n) i.0 List.[])) }
 {
-    let mut cells = [0u8; LARGEST_D];
+    let mut vertices = [0u8; LARGEST_D];
     let mut left = i;
-    let mut v = VertexNumber(0);
-    while (v.0 as usize) < n {
-        let s = path_from(start, to, p, &mut cells, v, d, 0, left);
-        match s {
-            Sought::Here(len) => return Path {
-                vertices: cells,
-                len: len,
-            },
-            Sought::Behind(place) => left = place,
+    for v in 0..columns.n {
+        let first = TaskVertex {
+            number: VertexNumber(v),
+        };
+        match path_from(columns, &mut vertices, first, d, 0, left) {
+            ControlFlow::Break(len) => return Path { vertices, len },
+            ControlFlow::Continue(place) => left = place,
         }
-        v = VertexNumber(v.0 + 1);
     }
-    Path {
-        vertices: cells,
-        len: 0,
-    }
+    Path { vertices, len: 0 }
 }

@@ -1,5 +1,5 @@
 -- Rows along lone edges: those put from where they lead are those put from where they start.
-use mathlib.Core.Path.{◌≡◌, refl, ap, subst, ◌∙◌}
+use mathlib.Core.Path.{◌≡◌, refl, ap, ◌∙◌}
 use Prim.Native.Nat.{ℕ, ◌+◌, ◌-◌, ◌*◌, ◌≤◌, ◌<◌}
 use native.Mathlib.Omega.{arith}
 use mathlib.Core.List.{List}
@@ -7,8 +7,10 @@ use lib.ListN.{length, get_or, replicate}
 use lib.Seq.{sets, length-sets}
 use Rattle.meaning.specs.Bounds.{most_vertices}
 use Rattle.columns.specs.Columns.{widest, SoundColumns}
+use Rattle.columns.specs.declared.Out.{Out}
+use Rattle.columns.specs.Only.{Alone}
 use Rattle.ways.specs.Ways.{ways}
-use Rattle.ways.proofs.Turns.{Turn, edge_on, ways_some, lone-length}
+use Rattle.ways.proofs.Turns.{Turn, turn_first, edge_on, ways_some, lone-length}
 use Rattle.loads.specs.Rows.{RowsPut}
 use Rattle.loads.specs.Follow.{FollowedRow}
 use Rattle.loads.proofs.Fronts.{copied_here}
@@ -36,7 +38,7 @@ module _ {e start to p : List ℕ} (so : SoundColumns start to p) {d v span belo
       let y = ways_some so (get_or to k 0) (d - (s + get_or p k 0)) w.1 (omega arith) in
       f.put i r Q z (put_some o so (omega arith) (λ h. omega (arith, x.next)))
 
-  pub led_on : FollowedRow e start to p d v span below row P (get_or to k 0) (s + get_or p k 0) (b + t) R'
+  led_on : FollowedRow e start to p d v span below row P (get_or to k 0) (s + get_or p k 0) (b + t) R'
   led_on =
       let w = edge_on so g (omega arith) in
       let a = f.onward in
@@ -53,11 +55,12 @@ module _ {e start to p : List ℕ} (so : SoundColumns start to p) {d v span belo
         put = put_on;
       }
 
--- ---- the end of `rows_from`, whose total is with u's own e
-
-pub put_led : {e start to p : List ℕ} {d v span below i : ℕ} {P : List ℕ} {u s b : ℕ} {R : List ℕ}
-    → FollowedRow e start to p d v span below (2 * i * d) P u s b R → {x : ℕ} → x ≡ get_or e u 0
-    → {r : ℕ} {Q : List ℕ} → RowsPut e start to p d u s (b + x - get_or e u 0) i R Q r → RowsPut e start to p d v span below i P Q r
-put_led {e} {start} {to} {p} {d} {i = i} {u = u} {s} {b} {R} f {x} ex {r} {Q} a =
-    let z : b + x - get_or e u 0 ≡ b = omega arith in
-    f.put i r Q refl (subst (λ (n : ℕ). RowsPut e start to p d u s n i R Q r) z a)
+-- by an edge that alone leaves u
+pub led_alone : {e start to p : List ℕ} → SoundColumns start to p → {d v span below row : ℕ} {P : List ℕ} {u s b : ℕ} {R : List ℕ} {x : Out}
+    → FollowedRow e start to p d v span below row P u s b R → Alone start to p u (d - s) x → row + d ≤ length P
+    → (t : ℕ) → t ≡ get_or e u 0 → t ≤ widest → (R' : List ℕ) → R' ≡ sets R (row + s) (replicate x.p.0 (b + t))
+    → FollowedRow e start to p d v span below row P x.to.number.0 (s + x.p.0) (b + t) R'
+led_alone {e} {start} {to} {p} so {u = u} f a hd t et ht R' eR =
+    let k = get_or start u 0 in
+    let g = turn_first so u (get_or start (u + 1) 0) k f.vertex refl refl in
+    rw (a.leads, a.takes) (led_on so f g refl a.one hd t et ht (omega (arith, a.takes, a.less, f.room)) R' (rw a.takes at eR))

@@ -1,12 +1,13 @@
 -- The front of a row, and what is stored over it.
 use mathlib.Core.Path.{◌≡◌, refl, sym, ap, ap₂, ◌∙◌}
-use Prim.Native.Nat.{ℕ, suc, ◌+◌, ◌-◌, ◌≤◌, ◌<◌}
+use Prim.Native.Nat.{ℕ, suc, ◌+◌, ◌-◌, ◌≤◌}
 use native.Mathlib.Nat.{add-zero}
 use native.Mathlib.Omega.{arith}
 use mathlib.Core.List.{List, [], ◌∷◌, ◌++◌}
-use lib.ListN.{length, get_or, take, drop, set, replicate, length-append, take-append-drop}
-use lib.Seq.{sets, sets-eq, set-set, slice, slice_empty, length-slice, length-take-le, take_all, take-take, take_at, drop_at, get_or-take, get_or-drop}
-use Rattle.meaning.proofs.Stores.{set-sets, sets-before, sets-take, run_more, copy_more}
+use lib.ListN.{length, take, drop, set, length-append, take-append-drop}
+use lib.Seq.{sets, sets-eq, set-set, slice, slice_empty, length-slice, length-take-le, take-take, take_at, drop_at, paste}
+use Rattle.meaning.proofs.Lists.{drop-take}
+use Rattle.meaning.proofs.Stores.{set-sets, sets-take}
 use Rattle.meaning.proofs.Wrote.{sets-append}
 use Rattle.loads.specs.Rows.{Copied}
 
@@ -56,33 +57,22 @@ pub front_more : (l : List ℕ) (a n to : ℕ) (xs : List ℕ) {m k : List ℕ} 
 front_more l a n to xs h em ek =
     ek ∙ ap₂ (λ (w : List ℕ) (j : ℕ). sets w (to + j) xs) em (sym (length_front l a n h)) ∙ sym (sets-append l to (slice a (a + n) l) xs)
 
--- ---- `fill_run`
-
-pub run_turn : (l m : List ℕ) (a t x : ℕ) → 1 ≤ t → m ≡ sets l a (replicate (t - 1) x) → set m (a + t - 1) x ≡ sets l a (replicate (t + 1 - 1) x)
-run_turn l m a t x h e =
-    let z : a + t - 1 - a ≡ t - 1 = omega arith in
-    let y : a + t - 1 + 1 - a ≡ t + 1 - 1 = omega arith in
-    run_more l m a (a + t - 1) x (omega arith) (e ∙ ap (λ (n : ℕ). sets l a (replicate n x)) (sym z)) ∙ ap (λ (n : ℕ). sets l a (replicate n x)) y
-
 -- ---- `copy_front`
 
 pub copied_here : (P : List ℕ) (row n to : ℕ) → to ≡ row → to + n ≤ length P → Copied P row n to P
 copied_here P row n to e h =
     record { cells = sets_same P row n (omega arith) ∙ ap (λ (a : ℕ). sets P a (slice row (row + n) P)) (sym e); kept = refl }
 
-module _ (P : List ℕ) (row n to : ℕ) (apart : row + n ≤ to) (fits : to + n ≤ length P) where
-  -- what is read stands before what is written
-  pub copied_more : (Q : List ℕ) (t : ℕ) → t < n → Q ≡ sets P to (take t (slice row (row + n) P))
-      → set Q (to + t) (get_or Q (row + t) 0) ≡ sets P to (take (t + 1) (slice row (row + n) P))
-  copied_more Q t h e =
-      let s = slice row (row + n) P in
-      let at : get_or Q (row + t) 0 ≡ get_or s t 0 =
-      ap (λ (w : List ℕ). get_or w (row + t) 0) e ∙ sets-before (take t s) P to (row + t) (omega arith)
-      ∙ sym (get_or-drop row (take (row + n) P) t 0 ∙ get_or-take (row + n) P (row + t) 0 (omega arith)) in
-      ap (set Q (to + t)) at ∙ copy_more P Q s to t (omega (arith, length_front P row n (omega arith))) e
-
-  pub copied_all : (Q : List ℕ) (t : ℕ) → n ≤ t → Q ≡ sets P to (take t (slice row (row + n) P)) → Copied P row n to Q
-  copied_all Q t h e =
-      let s = slice row (row + n) P in
-      let q : Q ≡ sets P to s = e ∙ ap (sets P to) (take_all t s (omega (arith, length_front P row n (omega arith)))) in
-      record { cells = q; kept = ap (take (row + n)) q ∙ sets-take s P (row + n) to apart }
+-- what is read stands before what is written
+pub copied_behind : (P : List ℕ) (row n to w : ℕ) → w ≡ n → row + n ≤ to → to + n ≤ length P
+    → (Q : List ℕ) → Q ≡ paste P to (drop row P) (row + w - row) → Copied P row n to Q
+copied_behind P row n to w e apart h Q q =
+    let s = slice row (row + n) P in
+    let z : row + w - row ≡ row + n - row = omega arith in
+    let l : n ≡ length s = sym (length_front P row n (omega arith)) in
+    let n' : row + n - row ≡ length s = omega arith in
+    let c : Q ≡ sets P to s =
+    q ∙ ap (paste P to (drop row P)) z
+    ∙ ap₂ (λ (y : List ℕ) (m : ℕ). take to P ++ y ++ drop (to + m) P) (sym (drop-take row (row + n) P)) n'
+    ∙ sym (sets-eq s P to (omega arith)) in
+    record { cells = c; kept = ap (take (row + n)) c ∙ sets-take s P (row + n) to apart }

@@ -10,11 +10,10 @@ pub(crate) fn fill_run(part: &mut [u32], at: usize, n: Ticks, x: u32)
     requires { at + n.0 ≤ length part.old }
     ensures { part.new ≡ sets part.old at (replicate n.0 x) }
 {
-    let end = n.0 as usize;
-    let mut t: usize = 1;
-    while t <= end {
-        part[at + t - 1] = x;
-        t += 1;
+    // A `for`: with the slice's `fill` the rows of `tables/vendor_ring.table`, whose runs are short, take a third more instructions.
+    let end = at + usize::from(n.0);
+    for cell in at..end {
+        part[cell] = x;
     }
 }
 
@@ -23,13 +22,7 @@ pub(crate) fn copy_front(part: &mut [u32], row: usize, to: usize, span: Ticks)
     requires { Apart row span.0 to × (to + span.0 ≤ length part.old) }
     ensures { Copied part.old row span.0 to part.new }
 {
-    if to == row {
-        return;
-    }
-    let end = span.0 as usize;
-    let mut i: usize = 0;
-    while i < end {
-        part[to + i] = part[row + i];
-        i += 1;
+    if to != row {
+        part.copy_within(row..row + usize::from(span.0), to);
     }
 }

@@ -1,5 +1,5 @@
 -- Rows of numbers in the work area, one of each higher task, and the finish by them.
-use Rattle.std.specs.Prelude.{◌≡◌, ℕ, suc, ◌+◌, ◌-◌, ◌*◌, ◌≤◌, ◌<◌, List, map, length, get_or}
+use Rattle.std.specs.Prelude.{ℕ, suc, ◌+◌, ◌-◌, ◌*◌, ◌≤◌, ◌<◌, List, map, length, get_or}
 use Rattle.meaning.specs.Bounds.{largest_e, largest_d, most_higher}
 use Rattle.meaning.specs.Lists.{sum}
 use Rattle.meaning.specs.Groups.{finish}
@@ -20,10 +20,9 @@ abbrev pub light : ℕ
 light = largest_e * largest_d
 
 -- the rows that begin there lie in the work area, and their cells are light and never fall from one tick to the next
-pub record LightRows (h d : ℕ) (base work : List ℕ) : Type 0 where
-  pub few : h ≤ most_higher
+pub record LightRows (d : ℕ) (base work : List ℕ) : Type 0 where
+  pub few : length base ≤ most_higher
   pub short : d ≤ largest_d
-  pub base_length : length base ≡ most_higher
-  pub within : (j : ℕ) → j < h → get_or base j 0 + d ≤ length work
-  pub cells : (j : ℕ) → j < h → (t : ℕ) → t < d → get_or work (get_or base j 0 + t) 0 ≤ light
-  pub rise : (j : ℕ) → j < h → (t : ℕ) → suc t < d → get_or work (get_or base j 0 + t) 0 ≤ get_or work (get_or base j 0 + suc t) 0
+  pub within : (j : ℕ) → j < length base → get_or base j 0 + d ≤ length work
+  pub cells : (j : ℕ) → j < length base → (t : ℕ) → t < d → get_or work (get_or base j 0 + t) 0 ≤ light
+  pub rise : (j : ℕ) → j < length base → (t : ℕ) → suc t < d → get_or work (get_or base j 0 + t) 0 ≤ get_or work (get_or base j 0 + suc t) 0

@@ -30,22 +30,25 @@ module _ {t : Task} (h : HeldTask t) {e start to p : List ℕ} (c : ColumnsOf (t
   pub few : t.nv ≤ most_vertices
   few = omega (arith, size, c.size)
 
-  module _ (d : ℕ) where
-    count : length (all_ways start to p d 0 t.nv) ≡ length (paths_of (task_of t) d)
-    count = sym (count_of_ways c d t.nv size) ∙ ap length (paths_are_complete (task_of t) d)
+  module _ (d : ℕ) {n : ℕ} (e_n : n ≡ t.nv) where
+    whole : n ≡ length (task_of t).vertices
+    whole = e_n ∙ size
 
-    pub counted : (cap r : ℕ) → r ≡ min cap (length (all_ways start to p d 0 t.nv)) → r ≡ min cap (length (paths_of (task_of t) d))
+    count : length (all_ways start to p d 0 n) ≡ length (paths_of (task_of t) d)
+    count = sym (count_of_ways c d n whole) ∙ ap length (paths_are_complete (task_of t) d)
+
+    pub counted : (cap r : ℕ) → r ≡ min cap (length (all_ways start to p d 0 n)) → r ≡ min cap (length (paths_of (task_of t) d))
     counted cap r q = q ∙ ap (min cap) count
 
-    pub placed : (i : ℕ) (r : Path) → r ≡ path_record (path_by to (get_or (all_ways start to p d 0 t.nv) i []))
+    pub placed : (i : ℕ) (r : Path) → r ≡ path_record (path_by to (get_or (all_ways start to p d 0 n) i []))
         → r ≡ path_record (get_or (paths_of (task_of t) d) i [])
-    placed i r q = q ∙ ap path_record (sym (place_of_ways c d t.nv i size) ∙ ap (λ (w : List (List ℕ)). get_or w i []) (paths_are_complete (task_of t) d))
+    placed i r q = q ∙ ap path_record (sym (place_of_ways c d n i whole) ∙ ap (λ (w : List (List ℕ)). get_or w i []) (paths_are_complete (task_of t) d))
 
-    pub room_for_all : (len : ℕ) → Room d (length (paths_of (task_of t) d)) len → Room d (length (all_ways start to p d 0 t.nv)) len
+    pub room_for_all : (len : ℕ) → Room d (length (paths_of (task_of t) d)) len → Room d (length (all_ways start to p d 0 n)) len
     room_for_all len = subst (λ (n : ℕ). Room d n len) (sym count)
 
-    pub rows_put : (P Q : List ℕ) → Q ≡ put_rows d 0 (way_rows e to p d (all_ways start to p d 0 t.nv)) P
+    pub rows_put : (P Q : List ℕ) → Q ≡ put_rows d 0 (way_rows e to p d (all_ways start to p d 0 n)) P
         → Q ≡ put_rows d 0 (map (load_row (task_of t) d) (paths_of (task_of t) d)) P
     rows_put P Q q =
-        q ∙ ap (λ (rows : List (List ℕ)). put_rows d 0 rows P) (loads_are_rows c d t.nv size)
+        q ∙ ap (λ (rows : List (List ℕ)). put_rows d 0 rows P) (loads_are_rows c d n whole)
         ∙ ap (λ (ws : List (List ℕ)). put_rows d 0 (map (load_row (task_of t) d) ws) P) (paths_are_complete (task_of t) d)

@@ -3,6 +3,9 @@
 // "Its load at t, for t at least 1, is the largest total e over its prefixes with span strictly below t."
 //
 // How many complete paths a task has for a horizon, the one at a place of the order, and the loads of them all.
+//
+// `HeldTask` and the horizon's bounds are clauses, here and in the crates above: a task is a part of a table, so that a type of held tasks would be made anew
+// for each call, and the horizon of `path_count` has no upper bound.
 #![tactic(auto)]
 
 ghost use Rattle.std.specs.Prelude.{◌≡◌, ◌≤◌, ◌<◌, min, List, map, length, get_or};
@@ -23,42 +26,30 @@ use loads::rows_all;
 use table::Task;
 
 // How many complete paths a task has for horizon d, exactly up to the cap, and the cap above.
-pub fn path_count(t: Task, d: Ticks, cap: usize) -> usize
-    requires held_task { HeldTask t }
+pub fn path_count(t: &Task, d: Ticks, cap: usize) -> usize
+    requires held_task { HeldTask t.now }
     requires d_nonzero { (0 < d.0) × (0 < cap) × (cap ≤ most_counted) }
-    ensures { result ≡ min cap (length (paths_of (task_of t) d.0)) }
+    ensures { result ≡ min cap (length (paths_of (task_of t.now) d.0)) }
 {
-    let c = columns_of(t);
-    let start = c.start;
-    let to = c.to;
-    let p = c.p;
-    count_all(&start, &to, &p, t.nv as usize, d, cap)
+    let columns = columns_of(t);
+    count_all(&columns, d, cap)
 }
 
 // The complete path of place i; of length 0, with zeros alone, where there is none.
-pub fn path_at(t: Task, d: Ticks, i: usize) -> Path
-    requires held_task { HeldTask t }
+pub fn path_at(t: &Task, d: Ticks, i: usize) -> Path
+    requires held_task { HeldTask t.now }
     requires d_nonzero { (0 < d.0) × (d.0 ≤ largest_d) × (i ≤ most_counted) }
-    ensures { result ≡ path_record (get_or (paths_of (task_of t) d.0) i List.[]) }
+    ensures { result ≡ path_record (get_or (paths_of (task_of t.now) d.0) i List.[]) }
 {
-    let c = columns_of(t);
-    let start = c.start;
-    let to = c.to;
-    let p = c.p;
-    path_all(&start, &to, &p, t.nv as usize, d, PathNumber(i))
+    path_all(&columns_of(t), d, PathNumber(i))
 }
 
 // The loads of the path of place i at t from 1 to d are row 2i of the part, each row of d cells; the rows between are unchanged.
-pub fn path_rows(part: &mut [u32], t: Task, d: Ticks)
-    requires held_task { HeldTask t }
+pub fn path_rows(part: &mut [u32], t: &Task, d: Ticks)
+    requires held_task { HeldTask t.now }
     requires d_nonzero { (0 < d.0) × (d.0 ≤ largest_d) }
-    requires room { Room d.0 (length (paths_of (task_of t) d.0)) (length part.old) }
-    ensures { part.new ≡ put_rows d.0 0 (map (load_row (task_of t) d.0) (paths_of (task_of t) d.0)) part.old }
+    requires room { Room d.0 (length (paths_of (task_of t.now) d.0)) (length part.old) }
+    ensures { part.new ≡ put_rows d.0 0 (map (load_row (task_of t.now) d.0) (paths_of (task_of t.now) d.0)) part.old }
 {
-    let c = columns_of(t);
-    let e = c.e;
-    let start = c.start;
-    let to = c.to;
-    let p = c.p;
-    rows_all(part, d, &e, &start, &to, &p, t.nv as usize);
+    rows_all(part, d, &columns_of(t));
 }

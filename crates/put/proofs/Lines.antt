@@ -1,17 +1,17 @@
--- Writing into a lent area, byte by byte and line by line.
+-- Writing into a lent area: a byte's digits, the bytes in turn, the line feed behind them.
 use mathlib.Core.Path.{◌≡◌, refl, ap, ap₂, ◌∙◌}
-use Prim.Native.Nat.{ℕ, ◌+◌, ◌*◌, ◌/◌, ◌%◌, ◌≤◌, ◌<◌}
+use Prim.Native.Nat.{ℕ, ◌+◌, ◌*◌, ◌/◌, ◌%◌, ◌<◌}
 use native.Mathlib.Nat.{zero-add}
 use native.Mathlib.Numerals.{add-one}
 use native.Mathlib.Omega.{arith}
 use mathlib.Core.List.{List, [], ◌∷◌}
 use lib.ListN.{length, set, get_or}
 use Rattle.meaning.specs.Lists.{gather}
-use Rattle.meaning.specs.Text.{digit, digits, line, line_feed}
+use Rattle.meaning.specs.Text.{digit, digits}
 use Rattle.meaning.specs.Areas.{Wrote}
+use Rattle.meaning.specs.Writing.{in_two}
 use Rattle.meaning.proofs.Lists.{count_at}
-use Rattle.meaning.proofs.TextSize.{digits-length}
-use Rattle.meaning.proofs.Wrote.{wrote_then, Gathering, gathering_room}
+use Rattle.std.specs.Int.{w16, to_be_bytes}
 use Rattle.put.specs.Put.{digits_in_order}
 
 digit_at : (order : List ℕ) (n : ℕ) → order ≡ digits_in_order → n < 16 → get_or order n 0 ≡ digit n
@@ -28,18 +28,11 @@ wrote_byte order out at b e h =
       end = refl;
     }
 
--- ---- bytes in turn, and their line
+-- two digits a byte
+pub low_size : {X : Type 0} (low : X → ℕ) (xs : List X) → length (gather (λ (x : X). digits (low x)) xs) ≡ 2 * length xs
+low_size low [] = refl
+low_size low (x ∷ xs) = omega (arith, low_size low xs)
 
--- room for the next byte
-pub byte_asks : {bytes out now : List ℕ} {at next i : ℕ} → Gathering digits bytes out at now next i
-    → i < length bytes → at + 2 * length bytes ≤ length out → next + 2 ≤ length now
-byte_asks {bytes} {out} {now} {at} g h r = gathering_room digits bytes 0 g h (omega (arith, r, digits-length bytes))
-
--- how far the digits reach
-pub digits_end : (f : List ℕ) {out after : List ℕ} {at next : ℕ} → Wrote (gather digits f) out at after next → next ≡ at + 2 * length f
-digits_end f {at = at} w = w.end ∙ ap (λ (k : ℕ). at + k) (digits-length f)
-
--- and then the line feed
-pub wrote_line : (f : List ℕ) {out mid : List ℕ} {at next : ℕ} → Wrote (gather digits f) out at mid next
-    → Wrote (line f) out at (set mid next line_feed) (next + 1)
-wrote_line f {mid = mid} {next = next} w = wrote_then (gather digits f) (line_feed ∷ []) w (record { cells = refl; end = refl })
+-- the code's two bytes of a number are the definition's
+pub two_bytes : (n : ℕ) → n < 65536 → to_be_bytes w16 n ≡ in_two n
+two_bytes n h = let e : n / 256 % 256 ≡ n / 256 = omega arith in ap (λ (high : ℕ). high ∷ n % 256 ∷ []) e

@@ -5,7 +5,7 @@
 // So the path of place i has row 2i, and the range of len paths from place first on has row 2 first + top_row(len).
 #![tactic(auto)]
 
-ghost use Rattle.std.specs.Prelude.{◌≡◌, ◌+◌, ◌≤◌, ◌<◌, max, length, take, drop};
+ghost use Rattle.std.specs.Prelude.{◌≡◌, ◌+◌, ◌≤◌, ◌<◌, length, take, drop};
 ghost use Rattle.std.proofs.lemmas.List.Edits.{sets};
 ghost use Rattle.meaning.specs.Bounds.{largest_d};
 ghost use Rattle.meaning.specs.Paths.{paths_of};
@@ -18,24 +18,13 @@ use paths::path_rows;
 use rows::{half, top_row};
 use table::Task;
 
-fn larger(x: u32, y: u32) -> u32
-    ensures { result ≡ max x y }
-{
-    if x < y {
-        return y;
-    }
-    x
-}
-
 // The row at o becomes the larger, cell by cell, of the rows at a and at b.
 fn larger_row(part: &mut [u32], o: usize, a: usize, b: usize, d: usize)
     requires { (a + d ≤ o) × (o + d ≤ b) × (b + d ≤ length part.old) }
     ensures { part.new ≡ sets part.old o (larger_cells (take d (drop a part.old)) (take d (drop b part.old))) }
 {
-    let mut t: usize = 0;
-    while t < d {
-        part[o + t] = larger(part[a + t], part[b + t]);
-        t += 1;
+    for t in 0..d {
+        part[o + t] = part[a + t].max(part[b + t]);
     }
 }
 
@@ -56,11 +45,11 @@ fn build(part: &mut [u32], len: usize, d: usize)
 }
 
 // A task's stretch for horizon d: the rows of all ranges of its paths.
-pub fn fill(part: &mut [u32], t: Task, paths: usize, d: Ticks)
-    requires held_task { HeldTask t }
-    requires d_nonzero { (0 < d.0) × (d.0 ≤ largest_d) × (paths ≤ most_counted) × (0 < paths) × (paths ≡ length (paths_of (task_of t) d.0)) × (length part.old ≡ stretch_cells d.0 paths) }
-    ensures { part.new ≡ stretch_of (task_of t) d.0 }
+pub fn fill(part: &mut [u32], t: &Task, paths: usize, d: Ticks)
+    requires held_task { HeldTask t.now }
+    requires d_nonzero { (0 < d.0) × (d.0 ≤ largest_d) × (paths ≤ most_counted) × (0 < paths) × (paths ≡ length (paths_of (task_of t.now) d.0)) × (length part.old ≡ stretch_cells d.0 paths) }
+    ensures { part.new ≡ stretch_of (task_of t.now) d.0 }
 {
     path_rows(part, t, d);
-    build(part, paths, d.0 as usize);
+    build(part, paths, usize::from(d.0));
 }

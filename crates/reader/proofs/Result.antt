@@ -12,7 +12,6 @@ use Rattle.meaning.specs.Sound.{SoundTable}
 use Rattle.meaning.specs.Slips.{LineRow}
 use Rattle.meaning.proofs.Readable.{InText, row_least}
 use Rattle.meaning.proofs.Demands.{readable_sound, text_refused}
-use Rattle.kinds.specs.declared.Refusal.{Refusal}
 use Rattle.kinds.specs.declared.RefusedAt.{RefusedAt}
 use Rattle.kinds.specs.Numbers.{refusal_number}
 use Rattle.kinds.proofs.Numbers.{refusal_of, number_of-refusal, number_some, same-refusal}
@@ -20,13 +19,12 @@ use Rattle.table.specs.declared.Table.{Table}
 use Rattle.table.specs.Record.{table_record}
 use Rattle.table.specs.Inner.{table_of}
 use Rattle.table.proofs.Record.{table_of_record}
-use Rattle.reader.specs.declared.Status.{Status}
-use Rattle.reader.specs.declared.Status.TheVariants.{Readable, Refused}
-use Rattle.reader.specs.declared.Reading.{Reading}
+use Rattle.std.specs.Prelude.{Result, Ok, Err, IfOk}
+use Rattle.std.proofs.lemmas.Result.{IfOk-at_ok}
+use Rattle.reader.specs.Inner.{refused_at}
 use Rattle.reader.specs.Record.{status_numbers, Reads}
 use Rattle.reader.specs.Settled.{ReadSettled}
 use Rattle.reader.proofs.Descent.{reading_record}
-use Rattle.reader.proofs.Whole.{no_tasks}
 
 -- each row of a text has its refusal
 row_number : (k : ℕ) → LineRow 1 7 k → refusal_number (refusal_of k) ≡ k
@@ -34,16 +32,16 @@ row_number k (inl r) = number_of-refusal k r.0 r.1
 row_number k (inr r) = subst (λ (j : ℕ). refusal_number (refusal_of j) ≡ j) (sym r) refl
 
 -- the record of what a text means is what a reading promises
-pub reading_reads : (text : List ℕ) (r : Reading) → r ≡ reading_record (read text) → Reads text r
+pub reading_reads : (text : List ℕ) (r : Result Table RefusedAt) → r ≡ reading_record (read text) → Reads text r
 reading_reads text r e = record { status = rw e (status_is (read text) refl); table = rw e (table_is (read text)) }
   where
-    status_is : (m : Text.Reading) → read text ≡ m → status_numbers (reading_record m).status ≡ checked m
+    status_is : (m : Text.Reading) → read text ≡ m → status_numbers (reading_record m) ≡ checked m
     status_is (readable ts) q = refl
     status_is (unreadable k n) q = ap (λ (i : ℕ). i ∷ n ∷ []) (row_number k (text_refused text k n q).0)
 
-    table_is : (m : Text.Reading) → (reading_record m).table ≡ table_record (Text.tasks_of m)
+    table_is : (m : Text.Reading) → IfOk (reading_record m) (λ t. t ≡ table_record (Text.tasks_of m))
     table_is (readable ts) = refl
-    table_is (unreadable k n) = sym no_tasks
+    table_is (unreadable k n) = tt
 
 -- ---- what a caller learns
 
@@ -58,27 +56,30 @@ pub record LineRefused (text : List ℕ) (at : RefusedAt) : Type 0 where
   pub means : read text ≡ unreadable (refusal_number at.refusal) at.place
   pub bounds : InText (refusal_number at.refusal) at.place
 
+number_is : {a b : List ℕ} → a ≡ b → get_or a 0 0 ≡ get_or b 0 0
+number_is q = ap (λ (ns : List ℕ). get_or ns 0 0) q
+
 module _ (text : List ℕ) where
   of_table : (ts : Meant.Table) → read text ≡ readable ts → TableRead text (table_record ts)
   of_table ts e =
       let t : table_of (table_record ts) ≡ ts = table_of_record ts in
       record { means = e ∙ ap readable (sym t); is = ap table_record (sym t); sound = subst SoundTable (sym t) (readable_sound text ts e) }
 
-  number_is : {a b : List ℕ} → a ≡ b → get_or a 0 0 ≡ get_or b 0 0
-  number_is q = ap (λ (ns : List ℕ). get_or ns 0 0) q
-
-  module _ (r : Reading) (e : Reads text r) where
-    status_says : {s : Status} {m : Text.Reading} → r.status ≡ s → read text ≡ m → status_numbers s ≡ checked m
+  module _ (r : Result Table RefusedAt) (e : Reads text r) where
+    status_says : {s : Result Table RefusedAt} {m : Text.Reading} → r ≡ s → read text ≡ m → status_numbers s ≡ checked m
     status_says p q = ap status_numbers (sym p) ∙ e.status ∙ ap checked q
 
-    pub table_read : r.status ≡ Readable → TableRead text r.table
-    table_read p = go (read text) refl
+    pub table_read : {t : Table} → r ≡ Ok t → TableRead text t
+    table_read {t} p = go (read text) refl
       where
-        go : (m : Text.Reading) → read text ≡ m → TableRead text r.table
-        go (readable ts) q = rw (e.table ∙ ap (λ (m : Text.Reading). table_record (Text.tasks_of m)) q) (of_table ts q)
+        is_table : t ≡ table_record (Text.tasks_of (read text))
+        is_table = IfOk-at_ok (λ (u : Table). u ≡ table_record (Text.tasks_of (read text))) p e.table
+
+        go : (m : Text.Reading) → read text ≡ m → TableRead text t
+        go (readable ts) q = rw (is_table ∙ ap (λ (m : Text.Reading). table_record (Text.tasks_of m)) q) (of_table ts q)
         go (unreadable k n) q = absurd (omega (arith, number_is (status_says p q), row_least (omega arith) (text_refused text k n q).0))
 
-    pub line_refused : {at : RefusedAt} → r.status ≡ Refused at → LineRefused text at
+    pub line_refused : {at : RefusedAt} → r ≡ Err at → LineRefused text at
     line_refused {at} p = go (read text) refl
       where
         go : (m : Text.Reading) → read text ≡ m → LineRefused text at
@@ -92,14 +93,11 @@ module _ (text : List ℕ) where
 
 -- ---- only one
 
-same_status : (s t : Status) → status_numbers s ≡ status_numbers t → s ≡ t
-same_status Readable Readable q = refl
-same_status Readable (Refused at) q = absurd (let k : 0 ≡ refusal_number at.refusal = cc in omega (arith, number_some at.refusal))
-same_status (Refused at) Readable q = absurd (let k : refusal_number at.refusal ≡ 0 = cc in omega (arith, number_some at.refusal))
-same_status (Refused a) (Refused b) q =
-    ap₂ (λ (w : Refusal) (n : ℕ). Refused (record { refusal = w; place = n })) (same-refusal a.refusal b.refusal cc) cc
+same_refused : (a b : RefusedAt) → status_numbers (Err a) ≡ status_numbers (Err b) → a ≡ b
+same_refused a b q = ap₂ refused_at (same-refusal a.refusal b.refusal cc) cc
 
 pub read-settled : ReadSettled
-read-settled text r s p q =
-    ap₂ (λ (x : Status) (t : Table). record { status = x; table = t }) (same_status r.status s.status (p.status ∙ sym q.status))
-    (p.table ∙ sym q.table)
+read-settled text (Ok t) (Ok u) p q = ap Ok (p.table ∙ sym q.table)
+read-settled text (Ok t) (Err b) p q = absurd (omega (arith, number_is (p.status ∙ sym q.status), number_some b.refusal))
+read-settled text (Err a) (Ok u) p q = absurd (omega (arith, number_is (p.status ∙ sym q.status), number_some a.refusal))
+read-settled text (Err a) (Err b) p q = ap Err (same_refused a b (p.status ∙ sym q.status))

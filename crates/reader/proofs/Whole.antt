@@ -18,17 +18,18 @@ use Rattle.kinds.proofs.Numbers.{refusal-of_number}
 use Rattle.table.specs.Record.{padded, no_task, task_record, table_record}
 use Rattle.table.specs.Inner.{no_table}
 use Rattle.frames.specs.declared.Head.{Head}
-use Rattle.frames.specs.declared.TaskOrEndLine.{TaskOrEndLine}
-use Rattle.frames.specs.declared.TaskOrEndLine.TheVariants.{TaskTaken, EndTaken, FrameRefused}
-use Rattle.lines.specs.declared.TaskLines.{TaskLines}
 use Rattle.frames.specs.Frames.{head_bytes, end_bytes, end_digits, task_or_end_line}
-use Rattle.lines.specs.Parts.{task_lines}
+use Rattle.lines.specs.Parts.{TaskTaken, task_lines}
 use Rattle.lines.proofs.Padded.{padded-set}
 use Rattle.frames.proofs.TaskOrEnd.{opened, frame_gives, task_or_end_read, task_has, end_long}
 use Rattle.lines.proofs.Gives.{TaskGives, whole-task, task_stopped}
 use Rattle.lines.proofs.TaskRead.{task_run}
-use Rattle.reader.specs.declared.Reading.{Reading}
-use Rattle.reader.specs.Inner.{refused_record}
+use Rattle.std.specs.Prelude.{Option, Some, None, Result, Ok, Err}
+use Rattle.kinds.specs.declared.Refusal.{Refusal}
+use Rattle.kinds.specs.declared.RefusedAt.{RefusedAt}
+use Rattle.table.specs.declared.Table.{Table}
+use Rattle.lines.specs.declared.Stopped.{Stopped}
+use Rattle.reader.specs.Inner.{refused_at}
 use Rattle.reader.proofs.Descent.{put_task, lines_then, frame_then, tasks_on, whole_text, reading_record}
 
 -- ---- after the end's line
@@ -47,7 +48,7 @@ more_left ts n (b ∷ u) h = go (eqb b line_feed) refl
 
 abbrev EndReads : Meant.Table → ℕ → List ℕ → Type 0
 EndReads ts line t =
-    frame_then EndTaken (table_record ts) line (length t) (λ h. refused_record WrongFrame line)
+    frame_then (Ok None) (table_record ts) line (length t) (λ h. Err (refused_at WrongFrame line))
     ≡ reading_record (at_end ts (suc line) (lines_of (drop end_bytes t)))
 
 end_run : (ts : Meant.Table) (line : ℕ) (t : List ℕ) → end_digits < length t → EndReads ts line t
@@ -87,13 +88,12 @@ module _ (g : ℕ) (ih : Going g) (ts : List Meant.Task) (line b : ℕ) (t : Lis
       simp (ln, padded-set most_tasks no_task task_record ts k (omega arith))
 
   -- behind the b bytes of the task's line
-  with_task : (R : Text.Reading) (a : TaskLines) → TaskGives R ts line (drop b t) a
-      → lines_then a.outcome (line + 1 + a.count) (tasks_on g (put_task (table_record ts) a.task) (line + 1 + a.count) (drop (b + a.bytes) t))
-      ≡ reading_record R
-  with_task R a (task_stopped w i q) =
+  with_task : (R : Text.Reading) (r : Result TaskTaken Stopped) → TaskGives R ts line (drop b t) r
+      → lines_then r line (λ a. tasks_on g (put_task (table_record ts) a.task) (line + 1 + a.count) (drop (b + a.bytes) t)) ≡ reading_record R
+  with_task R r (task_stopped w i q) =
       let o : suc (line + i) ≡ line + 1 + i = omega arith in
       simp (q, refusal-of_number, o)
-  with_task R a (whole-task k n bytes some q) =
+  with_task R r (whole-task k n bytes some q) =
       let c : having ts k ≡ ts ++ (k ∷ []) = having_some ts k.m k.vertices k.edges (omega arith) in
       let ln : length (ts ++ (k ∷ [])) ≡ length ts + 1 = length-append ts (k ∷ []) in
       let o : line + 1 + n ≡ suc (line + n) = omega arith in
@@ -106,7 +106,7 @@ module _ (ts : List Meant.Task) (k : Meant.Task) (line : ℕ) (t : List ℕ) whe
   abbrev have : List Meant.Task
   have = having ts k
 
-  abbrev next : TaskOrEndLine
+  abbrev next : Result (Option Head) Refusal
   next = task_or_end_line (length have) t
 
   abbrev task : Head → Text.Reading
@@ -115,20 +115,20 @@ module _ (ts : List Meant.Task) (k : Meant.Task) (line : ℕ) (t : List ℕ) whe
   abbrev ending : Text.Reading
   ending = at_end have (suc line) (lines_of (drop end_bytes t))
 
-  frame_run : (K : Head → Reading) → ((h : Head) → next ≡ TaskTaken h → K h ≡ reading_record (task h))
+  frame_run : (K : Head → Result Table RefusedAt) → ((h : Head) → next ≡ Ok (Some h) → K h ≡ reading_record (task h))
       → frame_then next (table_record have) line (length t) K ≡ reading_record (read_from (begun ts k 0 0) line (lines_of t))
   frame_run K run = go next refl ∙ ap reading_record (sym (task_or_end_read ts k line t))
     where
-      go : (x : TaskOrEndLine) → next ≡ x
+      go : (x : Result (Option Head) Refusal) → next ≡ x
           → frame_then next (table_record have) line (length t) K ≡ reading_record (frame_gives next line task ending)
-      go (FrameRefused w) q = simp (q, refusal-of_number)
-      go EndTaken q = simp q (end_run have line t (end_long (length have) t q))
-      go (TaskTaken h) q = simp q (run h q)
+      go (Err w) q = simp (q, refusal-of_number)
+      go (Ok None) q = simp q (end_run have line t (end_long (length have) t q))
+      go (Ok (Some h)) q = simp q (run h q)
 
 tasks_run : (g : ℕ) → Going g
 unfolding tasks_on
 tasks_run zero ts k line t s =
-    frame_run ts k line t (λ h. refused_record WrongFrame line) (λ h q. absurd (omega (arith, (task_has (length (having ts k)) t h q).fits)))
+    frame_run ts k line t (λ h. Err (refused_at WrongFrame line)) (λ h q. absurd (omega (arith, (task_has (length (having ts k)) t h q).fits)))
 tasks_run (suc g) ts k line t s =
     frame_run ts k line t _
     (λ h q.

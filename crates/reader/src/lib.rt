@@ -5,96 +5,57 @@
 // that fails. Each line that is taken has as many bytes as its frame, so that places in the text and line numbers are sums.
 #![tactic(auto)]
 
-ghost use Rattle.std.specs.Prelude.{◌≡◌, ◌≤◌, ◌<◌};
+ghost use Rattle.std.specs.Prelude.{◌≡◌, ◌≤◌};
 ghost use Rattle.meaning.specs.Text.{read, packed};
 ghost use Rattle.meaning.specs.Texts.{last_line};
 ghost use Rattle.reader.specs.Record.{Reads};
-ghost use Rattle.reader.specs.Inner.{refused_status, ended_status, is_refused};
+ghost use Rattle.reader.specs.Inner.{refused_at};
 
-use frames::{END_BYTES, TaskOrEndLine};
+use digits::Digits;
+use frames::{END_BYTES, task_or_end_line};
 use kinds::{Refusal, RefusedAt};
-use lines::Outcome;
+use lines::read_task;
 use table::Table;
 
-#[derive(Clone, Copy)]
-pub enum Status {
-    Readable,
-    Refused(RefusedAt),
-}
-
-// The table of a readable text, the empty table of a refused one. It stands first, where no gap is before it, so that it is copied once.
-#[derive(Clone, Copy)]
-pub struct Reading {
-    pub table: Table,
-    pub status: Status,
-}
-
-pub(crate) fn refused(refusal: Refusal, line: usize) -> Status
+fn refused_at(refusal: Refusal, line: usize) -> RefusedAt
     requires { line ≤ last_line }
-    ensures { result ≡ refused_status refusal line }
+    ensures { result ≡ refused_at refusal line }
 {
-    Status::Refused(RefusedAt {
+    RefusedAt {
         refusal,
         place: line as u32,
-    })
-}
-
-// Where no task's frame stands: the line's refusal, or the end frame's, with so many bytes from it on.
-pub(crate) fn ended(next: TaskOrEndLine, line: usize, left: usize) -> Status
-    requires { line < last_line }
-    ensures { result ≡ ended_status next line left }
-{
-    if let TaskOrEndLine::FrameRefused(refusal) = next {
-        return refused(refusal, line);
-    }
-    if left != END_BYTES {
-        return refused(Refusal::BytesAfterEnd, line + 1);
-    }
-    Status::Readable
-}
-
-pub(crate) fn is_refused(status: Status) -> bool
-    ensures { result ≡ is_refused status }
-{
-    match status {
-        Status::Readable => false,
-        Status::Refused(_) => true,
     }
 }
 
-// One way out, so that the table is copied once.
-pub fn read(text: &[u8]) -> Reading
+// The table of a readable text, or the row and the line that refuse it.
+pub fn read(text: &[u8]) -> Result<Table, RefusedAt>
     ensures { Reads text.now result }
 {
-    let worths = digits::worths();
+    let digits = Digits::new();
     let mut table = table::no_table();
-    let mut status = Status::Readable;
     let mut at = 0;
     let mut line = 1;
+    // No range: where a line stands is a sum of what was read, and how many tasks there are shows at the end; the ninth's line is looked at, too. `match` and
+    // not `map_err`, whose promise goes through a closure.
     loop {
-        let k = table.n;
-        let next = frames::task_or_end_line(&worths, &text[at..], k);
-        let TaskOrEndLine::TaskTaken(head) = next else {
-            status = ended(next, line, text.len() - at);
-            break;
+        let head = match task_or_end_line(&digits, &text[at..], table.n) {
+            Ok(Some(head)) => head,
+            Ok(None) => break,
+            Err(refusal) => return Err(refused_at(refusal, line)),
         };
-        let from = at + frames::head_bytes(head);
-        let taken = lines::read_task(&worths, text, from, head);
-        let outcome = taken.outcome;
-        if let Outcome::StoppedBy(refusal) = outcome {
-            status = refused(refusal, line + 1 + taken.count);
-            break;
-        }
-        let task = taken.task;
-        table.tasks[k] = task;
-        table.n = k + 1;
-        line = line + 1 + taken.count;
-        at = from + taken.bytes;
+        let from = at + head.bytes();
+        let lines = match read_task(&digits, text, from, head, &mut table.tasks[table.n]) {
+            Ok(lines) => lines,
+            Err(stop) => return Err(refused_at(stop.refusal, line + 1 + stop.count)),
+        };
+        table.n += 1;
+        line += 1 + lines.count;
+        at = from + lines.bytes;
     }
-    if is_refused(status) {
-        table = table::no_table();
+    if text.len() - at != END_BYTES {
+        return Err(refused_at(Refusal::BytesAfterEnd, line + 1));
     }
-    Reading { status, table }
+    Ok(table)
 }
 
 // "The customer desk's C host calls the text check directly, with the bytes and a length, and gets refusal number and line, both 0 for a
@@ -102,11 +63,8 @@ pub fn read(text: &[u8]) -> Reading
 pub fn text_check(text: &[u8]) -> u32
     ensures { result ≡ packed (read text.now) }
 {
-    let r = read(text);
-    let status = r.status;
-    let Status::Refused(at) = status else {
-        return 0;
-    };
-    let refusal = at.refusal;
-    kinds::refusal_number(refusal) as u32 * 65536 + at.place
+    match read(text) {
+        Ok(_) => 0,
+        Err(at) => u32::from(at.refusal.number()) * 65536 + at.place,
+    }
 }

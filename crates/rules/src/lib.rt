@@ -9,7 +9,7 @@ ghost use Rattle.std.specs.Prelude.{◌≡◌};
 ghost use Rattle.rules.specs.Rules.{task_in, vertex_in, separation_in, edge_in, link_in};
 ghost use Rattle.rules.specs.Rules.{job_in_time, mask_covered, edge_spaced, edge_place, least_after, edge_after};
 
-// The bounds, in the width of the numbers that are tested.
+// The bounds, in the width of the numbers that are tested; by `as`, since a constant's value calls no function.
 const MOST_VERTICES: u32 = bounds::MOST_VERTICES as u32;
 
 const MOST_EDGES: u32 = bounds::MOST_EDGES as u32;
@@ -112,10 +112,11 @@ pub fn edge_spaced(d: u32, p: u32) -> bool
 fn edge_place(from: u8, to: u8) -> u32
     ensures { result ≡ edge_place from to }
 {
-    from as u32 * 256 + to as u32
+    u32::from(from) * 256 + u32::from(to)
 }
 
-// An edge stands after the one before it, which leaves the places from `least` on; before the first edge that is 0.
+// An edge stands after the one before it, which leaves the places from `least` on; before the first edge that is 0, a place like any other: an Option of the
+// edge before would be taken apart at each edge for the same comparison.
 pub fn edge_after(least: u32, from: u8, to: u8) -> bool
     ensures { result ≡ edge_after least from to }
 {

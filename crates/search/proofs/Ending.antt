@@ -28,6 +28,7 @@ use Rattle.walk.specs.declared.Walked.{Walked}
 use Rattle.walk.specs.Steps.{run_rows}
 use Rattle.walk.specs.Told.{chosen, AtPaths, Places, Says}
 use Rattle.walk.proofs.Told.{walk_says, places-whole}
+use Rattle.groups.specs.Lent.{roots, counts}
 use Rattle.areas.specs.declared.above.Above.{Above}
 use Rattle.areas.specs.Above.{path_counts, above_of}
 use Rattle.areas.specs.Stretches.{stretches}
@@ -106,7 +107,7 @@ module _ (asked : Asked) (ks : List Meant.Task) (d : ℕ) (few : Few ks d) (e b 
   top = top_of ks d
 
   abbrev ran : Walked
-  ran = run_rows (stretches ks d) d e (take (length ks) a.roots) (take (length ks) a.counts) (first_bar asked d) b
+  ran = run_rows (stretches ks d) d e (take (length ks) (roots a.stretches)) (take (length ks) (counts a.stretches)) (first_bar asked d) b
 
   abbrev end : End Listed
   end = end_by (witness load_of e d top) (last_bar asked e d top)

@@ -25,6 +25,7 @@ use Rattle.rows.specs.Ranges.{range, row_start}
 use Rattle.overload.specs.Rows.{light}
 use Rattle.walk.specs.Lent.{Walkable}
 use Rattle.walk.specs.Told.{sizes, RowsHold}
+use Rattle.groups.specs.Lent.{roots, counts}
 use Rattle.areas.specs.declared.above.Above.{Above}
 use Rattle.areas.specs.Above.{path_counts, above_of}
 use Rattle.areas.specs.Stretches.{stretches}
@@ -65,30 +66,30 @@ module _ (ks : List Meant.Task) (d : ℕ) (few : Few ks d) where
   group_at : (j : ℕ) → j < length ks → get_or Gs j [] ≡ listed d (task j)
   group_at j m = get_or_mapped (listed d) [] no_task ks j m
 
-  pub group_length : (j : ℕ) → j < length ks → length (get_or Gs j []) ≡ get_or a.counts j 0
+  pub group_length : (j : ℕ) → j < length ks → length (get_or Gs j []) ≡ get_or (counts a.stretches) j 0
   group_length j m = ap length (group_at j m) ∙ length-map (paths_of (task j) d) _ ∙ sym (at ks d few j m).paths
 
   some_path_lem : (j : ℕ) → j < length ks → 0 < length (paths_of (task j) d)
   some_path_lem j m = paths_some (task j) (task_sound ks d few j m) d
 
   -- the cell of a range's row
-  cell_at : (j : ℕ) → j < length ks → (f m : ℕ) → Node 0 (get_or a.counts j 0) f m → (u : ℕ) → u < d
-      → get_or work (row_start d (get_or a.roots j 0) (range f m) + u) 0 ≡ get_or (stretch_of (task j) d) ((2 * f + top_row m) * d + u) 0
+  cell_at : (j : ℕ) → j < length ks → (f m : ℕ) → Node 0 (get_or (counts a.stretches) j 0) f m → (u : ℕ) → u < d
+      → get_or work (row_start d (get_or (roots a.stretches) j 0) (range f m) + u) 0 ≡ get_or (stretch_of (task j) d) ((2 * f + top_row m) * d + u) 0
   unfolding row_start
   cell_at j q f m x u v =
       let p = at ks d few j q in
       let row = 2 * f + top_row m in
-      let one : suc row ≤ 2 * get_or a.counts j 0 - 1 = omega (arith, node_in x, top_in m (node_pos x p.some)) in
-      let long : length (stretch_of (task j) d) ≡ stretch_cells d (get_or a.counts j 0) =
+      let one : suc row ≤ 2 * get_or (counts a.stretches) j 0 - 1 = omega (arith, node_in x, top_in m (node_pos x p.some)) in
+      let long : length (stretch_of (task j) d) ≡ stretch_cells d (get_or (counts a.stretches) j 0) =
       stretch_length (task j) d (some_path_lem j q) ∙ ap (stretch_cells d) (sym p.paths) in
       let fits : row * d + u < length (stretch_of (task j) d) = omega (arith, long, mul-le-mul_right d one, suc-mul row d) in
-      let place : get_or a.roots j 0 + row * d + u ≡ length (stretches (take j ks) d) + (row * d + u) = omega (arith, p.from) in
+      let place : get_or (roots a.stretches) j 0 + row * d + u ≡ length (stretches (take j ks) d) + (row * d + u) = omega (arith, p.from) in
       ap (λ (n : ℕ). get_or work n 0) place ∙ get_or-gather (λ (y : Meant.Task). stretch_of y d) ks j (row * d + u) q fits
 
-  pub rows_hold : RowsHold load_of d work a.roots Gs
+  pub rows_hold : RowsHold load_of d work (roots a.stretches) Gs
   rows_hold j q f m x u v =
       let b : j < length ks = omega (arith, group_many) in
-      let y : Node 0 (get_or a.counts j 0) f m = subst (λ (n : ℕ). Node 0 n f m) (group_length j b) x in
+      let y : Node 0 (get_or (counts a.stretches) j 0) f m = subst (λ (n : ℕ). Node 0 n f m) (group_length j b) x in
       let z : Node 0 (length (paths_of (task j) d)) f m = subst (λ (n : ℕ). Node 0 n f m) (at ks d few j b).paths y in
       let back : suc u - 1 ≡ u = omega arith in
       cell_at j b f m y u v
@@ -96,23 +97,23 @@ module _ (ks : List Meant.Task) (d : ℕ) (few : Few ks d) where
       ∙ listed-cell (task j) d (some_path_lem j b) z (suc u) (omega arith) (omega arith)
       ∙ ap (λ (r : List Listed). range_load load_of (take m (drop f r)) (suc u)) (sym (group_at j b))
 
-  pub counts_are : take (length ks) a.counts ≡ sizes Gs
+  pub counts_are : take (length ks) (counts a.stretches) ≡ sizes Gs
   counts_are =
-      let long : length (take (length ks) a.counts) ≡ length ks =
-      length-take-le (length ks) a.counts (omega (arith, few.seven, above_counts d (path_counts ks d) seven)) in
-      ext_get_or 0 (take (length ks) a.counts) (sizes Gs) (long ∙ sym (length-map Gs length ∙ group_many))
+      let long : length (take (length ks) (counts a.stretches)) ≡ length ks =
+      length-take-le (length ks) (counts a.stretches) (omega (arith, few.seven, above_counts d (path_counts ks d) seven)) in
+      ext_get_or 0 (take (length ks) (counts a.stretches)) (sizes Gs) (long ∙ sym (length-map Gs length ∙ group_many))
       (λ j m.
       let b : j < length ks = omega arith in
-      get_or-take (length ks) a.counts j 0 b ∙ sym (get_or_mapped length 0 [] Gs j (omega (arith, group_many)) ∙ group_length j b))
+      get_or-take (length ks) (counts a.stretches) j 0 b ∙ sym (get_or_mapped length 0 [] Gs j (omega (arith, group_many)) ∙ group_length j b))
 
-  pub walkable : (e : ℕ) → e ≤ light → Walkable (length ks) d e a.roots a.counts work
+  pub walkable : (e : ℕ) → e ≤ light → Walkable (length ks) d e (roots a.stretches) (counts a.stretches) work
   walkable e o =
       record {
         stretches = record {
           few = few.seven;
           short = few.short;
-          root_length = above_roots d (path_counts ks d) seven;
-          count_length = above_counts d (path_counts ks d) seven;
+          root_length = omega (arith, few.seven, above_roots d (path_counts ks d) seven);
+          count_length = omega (arith, few.seven, above_counts d (path_counts ks d) seven);
           paths = λ j m. let p = at ks d few j m in (p.some, p.few);
           within = λ j m. omega (arith, (at ks d few j m).within, need_is ks d few);
         };

@@ -2,8 +2,9 @@
 // which says what is asked (1 byte), the text's length (4), task (1), vertex (1), budget (4), work cells (4), witness cells (4).
 #![tactic(auto)]
 
-ghost use Rattle.std.specs.Prelude.{◌≡◌, ◌+◌, ◌≤◌, length};
+ghost use Rattle.std.specs.Prelude.{◌≡◌, ◌+◌, ◌≤◌, ◌<◌, ◌↔◌, length, IsTrue, IsSome, IfSome};
 ghost use Rattle.sequences.specs.Sequence.{header_bytes, room_bytes, number_at, case_end, zeros};
+ghost use Rattle.sequences.specs.Headers.{header_at};
 
 pub const HEADER_BYTES: usize = 19;
 
@@ -17,36 +18,59 @@ pub fn room() -> [u8; ROOM_BYTES]
     [0; ROOM_BYTES]
 }
 
-fn wide(b: u8) -> usize
-    ensures { (result ≡ b) × (result ≤ 255) }
-{
-    b as usize
-}
-
 // The number in the 4 bytes at a place.
 pub fn number_at(bytes: &[u8], at: usize) -> usize
     requires { at + 4 ≤ length bytes.now }
     ensures { (result ≡ number_at bytes.now at) × (result ≤ 4294967295) }
 {
-    let high = wide(bytes[at]) * 256 + wide(bytes[at + 1]);
-    let low = wide(bytes[at + 2]) * 256 + wide(bytes[at + 3]);
-    high * 65536 + low
+    u32::from_be_bytes([bytes[at], bytes[at + 1], bytes[at + 2], bytes[at + 3]]) as usize
+}
+
+// What a header says, but for its text's length.
+#[derive(Clone, Copy, PartialEq, Eq)]
+pub struct Header {
+    pub mode: u8,
+    pub task: u8,
+    pub vertex: u8,
+    pub budget: u32,
+    pub work_cells: usize,
+    pub witness_cells: usize,
+}
+
+// Whether the sequence has no whole header at a place.
+fn breaks_off(bytes: &[u8], at: usize) -> bool
+    ensures { IsTrue result ↔ (length bytes.now < at + header_bytes) }
+{
+    bytes.len() < HEADER_BYTES || bytes.len() - HEADER_BYTES < at
+}
+
+impl Header {
+    // The header at a place, or none where the sequence breaks off within it.
+    pub fn read(bytes: &[u8], at: usize) -> Option<Header>
+        ensures whole { IsSome result ↔ (at + header_bytes ≤ length bytes.now) }
+        ensures value { IfSome result (λ header. header ≡ header_at bytes.now at) }
+    {
+        if breaks_off(bytes, at) {
+            return None;
+        }
+        Some(Header {
+            mode: bytes[at],
+            task: bytes[at + 5],
+            vertex: bytes[at + 6],
+            budget: number_at(bytes, at + 7) as u32,
+            work_cells: number_at(bytes, at + 11),
+            witness_cells: number_at(bytes, at + 15),
+        })
+    }
 }
 
 // Where the case ends whose header stands at `at`: the whole sequence's end where it breaks off.
 pub fn case_end(bytes: &[u8], at: usize) -> usize
     ensures { result ≡ case_end bytes.now at }
 {
-    if bytes.len() < HEADER_BYTES {
-        return bytes.len();
-    }
-    if bytes.len() - HEADER_BYTES < at {
+    if breaks_off(bytes, at) {
         return bytes.len();
     }
     let from = at + HEADER_BYTES;
-    let n = number_at(bytes, at + 1);
-    if bytes.len() - from < n {
-        return bytes.len();
-    }
-    from + n
+    from + number_at(bytes, at + 1).min(bytes.len() - from)
 }

@@ -7,67 +7,65 @@
 ghost use Rattle.std.specs.Prelude.{◌≡◌, ◌+◌, ◌*◌, ◌≤◌, leb, ltb};
 ghost use Rattle.meaning.specs.Bounds.{most_higher, most_paths, largest_d, longest_input};
 ghost use Rattle.meaning.specs.Areas.{rows_for};
-ghost use Rattle.sheet.specs.Sheet.{refused_at, no_such_vertex, too_many_paths, area_rows, said_of};
+ghost use Rattle.sheet.specs.Sheet.{no_such_vertex, too_many_paths, area_rows, said_of};
 
 use bounds::LONGEST_INPUT;
 use kinds::{Lateness, Refusal, RefusedAt, TaskNumber, Ticks};
 use walk::Ending;
 
-// Whether the rows on the areas let a vertex be judged.
-#[derive(Clone, Copy)]
-pub enum AreaRows {
-    Passed,
-    Refused(RefusedAt),
-}
-
 // Row 8 holds where a table of so many tasks has none of this number, or a task of so many vertices.
 pub fn no_such(number: u8, count: usize) -> bool
     ensures { result ≡ leb count number }
 {
-    count <= number as usize
+    count <= usize::from(number)
 }
 
 pub fn no_such_vertex() -> Lateness
     ensures { result ≡ no_such_vertex }
 {
-    let refusal = Refusal::NoSuchVertex;
-    Lateness::Refused(RefusedAt { refusal, place: 0 })
+    Lateness::Refused(RefusedAt {
+        refusal: Refusal::NoSuchVertex,
+        place: 0,
+    })
 }
 
 // Row 9, of the lowest-numbered task that it holds of.
 pub fn too_many_paths(task: TaskNumber) -> Lateness
     ensures { result ≡ too_many_paths task.0 }
 {
-    let refusal = Refusal::TooManyPaths;
     Lateness::Refused(RefusedAt {
-        refusal,
-        place: task.0 as u32,
+        refusal: Refusal::TooManyPaths,
+        place: u32::from(task.0),
     })
 }
 
-fn area_row(refusal: Refusal, place: u32) -> AreaRows
-    ensures { result ≡ AreaRows.Refused (refused_at refusal place) }
-{
-    AreaRows::Refused(RefusedAt { refusal, place })
-}
-
-// Rows 10 and 11, for h higher tasks with so many rows of d cells, and areas of so many cells.
-pub fn area_rows(rows: usize, h: usize, d: Ticks, work: usize, witness: usize) -> AreaRows
+// Rows 10 and 11, for h higher tasks with so many rows of d cells, and areas of so many cells: whether they let a vertex be judged.
+pub fn area_rows(
+    rows: usize,
+    h: usize,
+    d: Ticks,
+    work: usize,
+    witness: usize,
+) -> Result<(), RefusedAt>
     requires { (rows ≤ rows_for most_paths * most_higher) × (h ≤ most_higher) × (d.0 ≤ largest_d) }
     ensures { result ≡ area_rows (rows * d.0) (h * (1 + d.0)) work witness }
 {
-    let ticks = d.0 as usize;
+    let ticks = usize::from(d.0);
     let need = rows * ticks;
     let cells = h * (1 + ticks);
-    let work_place = need as u32;
-    let witness_place = cells as u32;
     if work < need {
-        return area_row(Refusal::WorkTooShort, work_place);
+        return Err(RefusedAt {
+            refusal: Refusal::WorkTooShort,
+            place: need as u32,
+        });
     }
     if witness < cells {
-        return area_row(Refusal::WitnessTooShort, witness_place);
+        return Err(RefusedAt {
+            refusal: Refusal::WitnessTooShort,
+            place: cells as u32,
+        });
     }
-    AreaRows::Passed
+    Ok(())
 }
 
 // Row 12, the program's alone.

@@ -1,30 +1,30 @@
 // What the tool judges, by value: "A table holds tasks in priority order; task 0 is highest."
-// A list is an array with its length beside it; the places behind the length hold zeros.
+// A list is an array with its length beside it, since nothing here is on a heap, and a record may say any length (the writer refuses it then). In what was
+// read the places behind the length hold zeros.
 #![tactic(auto)]
 
-ghost use Rattle.std.specs.Prelude.{◌≡◌, ◌≤◌};
-ghost use Rattle.meaning.specs.Bounds.{most_vertices};
+ghost use Rattle.std.specs.Prelude.{◌≡◌, length};
 ghost use Rattle.table.specs.Record.{task_cells, no_vertex, no_edge, no_task};
 ghost use Rattle.table.specs.Inner.{largest_of, no_table};
 
 use bounds::{MOST_EDGES, MOST_TASKS, MOST_VERTICES};
 use kinds::{Ticks, VertexNumber};
 
-#[derive(Clone, Copy)]
+#[derive(Clone, Copy, PartialEq, Eq)]
 pub struct Vertex {
     pub e: Ticks,
     pub d: Ticks,
 }
 
-#[derive(Clone, Copy)]
+#[derive(Clone, Copy, PartialEq, Eq)]
 pub struct Edge {
     pub from: VertexNumber,
     pub to: VertexNumber,
     pub p: Ticks,
 }
 
-// nv vertices and ne edges, with the masked length m; only `task_of` makes one.
-#[derive(Clone, Copy)]
+// nv vertices and ne edges, with the masked length m.
+#[derive(Clone, Copy, PartialEq, Eq)]
 pub struct Task {
     pub m: Ticks,
     pub nv: u16,
@@ -34,7 +34,7 @@ pub struct Task {
 }
 
 // n tasks.
-#[derive(Clone, Copy)]
+#[derive(Clone, Copy, PartialEq, Eq)]
 pub struct Table {
     pub n: usize,
     pub tasks: [Task; MOST_TASKS],
@@ -86,17 +86,13 @@ pub fn no_task() -> Task
     task_of(Ticks(0), 0, 0, [x; MOST_VERTICES], [y; MOST_EDGES])
 }
 
-// The largest e of the first n.
-pub fn largest_e(vertices: [Vertex; MOST_VERTICES], n: usize) -> Ticks
-    requires { n ≤ most_vertices }
-    ensures { result.0 ≡ largest_of n vertices }
+// The largest e of some vertices.
+pub fn largest_e(vertices: &[Vertex]) -> Ticks
+    ensures { result.0 ≡ largest_of (length vertices.now) vertices.now }
 {
     let mut largest = Ticks(0);
-    let mut i: usize = 0;
-    while i < n {
-        let x = vertices[i];
+    for x in vertices {
         largest = kinds::longer(largest, x.e);
-        i += 1;
     }
     largest
 }

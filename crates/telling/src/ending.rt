@@ -1,26 +1,32 @@
 // How many vertices meet, miss, are unfinished and are refused, and what follows from that for the whole table.
-use crate::print::{say, say_with};
-use counts::{Counts, goes_out};
+use counts::Counts;
+use std::fmt;
 
-fn say_sentence(counts: Counts) {
-    if goes_out(counts) {
-        say(b"This may go out: every job type meets its deadline.\n");
-        return;
+#[derive(Drop)]
+pub(crate) struct Ending(pub Counts);
+
+fn conclusion(counts: Counts) -> &'static str {
+    if counts.goes_out() {
+        "This may go out: every job type meets its deadline."
+    } else if counts.missing != 0 {
+        "This may NOT go out: a job type misses its deadline."
+    } else {
+        "This may NOT go out: not every job type was shown to meet its deadline."
     }
-    if counts.missing != 0 {
-        say(b"This may NOT go out: a job type misses its deadline.\n");
-        return;
-    }
-    say(b"This may NOT go out: not every job type was shown to meet its deadline.\n");
 }
 
-pub(crate) fn say_counts(counts: Counts) {
-    let numbers = [
-        counts.meeting as u32,
-        counts.missing as u32,
-        counts.unfinishing as u32,
-        counts.refusing as u32,
-    ];
-    say_with(b"meets #0, misses #1, unfinished #2, refused #3\n", numbers);
-    say_sentence(counts);
+impl fmt::Display for Ending {
+    fn fmt<W: fmt::Write>(&self, f: &mut fmt::Formatter<W>) -> fmt::Result {
+        let Counts {
+            meeting,
+            missing,
+            unfinishing,
+            refusing,
+        } = self.0;
+        writeln!(
+            f,
+            "meets {meeting}, misses {missing}, unfinished {unfinishing}, refused {refusing}"
+        )?;
+        writeln!(f, "{}", conclusion(self.0))
+    }
 }

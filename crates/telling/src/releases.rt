@@ -1,151 +1,152 @@
 // The releases that show a miss, or make a meets so late, out of the witness area: "per higher task in order, the path's length and vertices".
-ghost use Rattle.std.specs.Prelude.{◌+◌, ◌≤◌, ◌<◌, length};
-ghost use Rattle.meaning.specs.Bounds.{most_tasks};
+ghost use Rattle.std.specs.Prelude.{◌≤◌, ◌<◌, length};
 
-use crate::numbers::{sum, times};
-use crate::print::{end_line, say, say_with};
-use bounds::{MOST_EDGES, MOST_TASKS, MOST_VERTICES};
-use table::{Edge, Table, Task};
+use std::fmt;
+use table::{Table, Task};
 
 // So many releases of one vertex behind each other, by its edge to itself, are said once.
 const SHORTEST_RUN: usize = 4;
 
-fn wide(cell: u16) -> u32 {
-    cell as u32
+// The paths in the cells, one for each higher task.
+#[derive(Drop)]
+pub(crate) struct Releases<'a> {
+    pub table: &'a Table,
+    pub cells: &'a [u16],
 }
 
-fn execution(task: Task, v: u32) -> u32 {
-    if MOST_VERTICES <= v as usize {
-        return 0;
-    }
-    let job = task.vertices[v as usize];
-    job.e.0 as u32
+#[derive(Drop)]
+struct Path<'a> {
+    task: &'a Task,
+    vertices: &'a [u16],
 }
 
-fn leads(edge: Edge, from: u32, to: u32) -> bool {
-    if edge.from.0 as u32 != from {
-        return false;
-    }
-    edge.to.0 as u32 == to
+// Releases of one vertex, the first at a tick, the others each so much later than the one before.
+#[derive(Drop)]
+struct Run {
+    vertex: u16,
+    times: u64,
+    first: u64,
+    wait: u64,
 }
 
-// The separation of the edge from one vertex to another: "each next one by an edge".
-fn separation(task: Task, from: u32, to: u32) -> u32 {
-    let mut i: usize = 0;
-    while i < MOST_EDGES {
-        let edge = task.edges[i];
-        if leads(edge, from, to) {
-            return edge.p.0 as u32;
+// The first path of the cells, and the cells behind it; where they break off, as much as there is of it.
+fn first_path(cells: &[u16]) -> Option<(&[u16], &[u16])> {
+    let (len, rest) = cells.split_first()?;
+    Some(rest.split_at(rest.len().min(usize::from(*len))))
+}
+
+// How many releases at the start of a path are said at once: a run too short for that is taken one release at a time.
+fn run_length(path: &[u16]) -> usize
+    requires { 0 < length path.now }
+    ensures { (0 < result) × (result ≤ length path.now) }
+{
+    let vertex = path[0];
+    let n = path.iter().take_while(|v| **v == vertex).count();
+    if n < SHORTEST_RUN { 1 } else { n }
+}
+
+impl Releases<'_> {
+    // What the paths load the processor with by the deadline.
+    pub(crate) fn load(&self) -> u64 {
+        let mut load: u64 = 0;
+        let mut cells = self.cells;
+        for task in &self.table.tasks {
+            let Some((vertices, rest)) = first_path(cells) else {
+                break;
+            };
+            load = load.saturating_add(Path { task, vertices }.load());
+            cells = rest;
         }
-        i += 1;
+        load
     }
-    0
 }
 
-// How much later than the release before it a path's release i is.
-fn wait_before(task: Task, path: &[u16], i: usize) -> u32
-    requires { i < length path.now }
-{
-    if i == 0 {
-        return 0;
-    }
-    separation(task, wide(path[i - 1]), wide(path[i]))
-}
-
-// Where the run of releases of one vertex that begins at `from` ends; a run too short to be said once is taken one release at a time.
-fn run_end(path: &[u16], from: usize) -> usize
-    requires { from < length path.now }
-    ensures { (from < result) × (result ≤ length path.now) }
-{
-    let v = path[from];
-    let mut i = from + 1;
-    while i < path.len() {
-        if path[i] != v {
-            break;
+impl Path<'_> {
+    // The total e of its vertices, since its span is below the deadline.
+    fn load(&self) -> u64 {
+        let mut load: u64 = 0;
+        for v in self.vertices {
+            load = load.saturating_add(self.execution(*v));
         }
-        i += 1;
+        load
     }
-    if i - from < SHORTEST_RUN {
-        return from + 1;
+
+    fn execution(&self, vertex: u16) -> u64 {
+        self.task
+            .vertices
+            .get(usize::from(vertex))
+            .map_or(0, |job| u64::from(job.e.0))
     }
-    i
+
+    // The separation of the edge from one vertex to another: "each next one by an edge".
+    fn separation(&self, from: u16, to: u16) -> u64 {
+        let mut edges = self.task.edges.iter();
+        edges
+            .find(|edge| u16::from(edge.from.0) == from && u16::from(edge.to.0) == to)
+            .map_or(0, |edge| u64::from(edge.p.0))
+    }
 }
 
-// n releases of vertex v, the first at a tick, the others each so much later than the one before. Gives the last one's tick.
-fn say_run(v: u32, n: usize, tick: u32, wait: u32) -> u32
-    requires { 0 < n }
-{
-    let last = sum(tick, times(n - 1, wait));
-    say_with(b"vertex #0 at tick #1", [v, tick, 0, 0]);
-    if n == 1 {
-        return last;
+impl Run {
+    fn last(&self) -> u64 {
+        self.first
+            .saturating_add(self.wait.saturating_mul(self.times.saturating_sub(1)))
     }
-    if wait == 1 {
-        say_with(b" and every tick up to tick #0", [last, 0, 0, 0]);
-        return last;
-    }
-    say_with(b" and every #0 ticks up to tick #1", [wait, last, 0, 0]);
-    last
 }
 
-// One path's releases: the first at tick 0. Gives its load at the deadline, which is the total e of its vertices, since its span is below the deadline.
-fn say_path(task: Task, path: &[u16]) -> u32 {
-    let mut load: u32 = 0;
-    let mut tick: u32 = 0;
-    let mut i: usize = 0;
-    while i < path.len() {
-        if i != 0 {
-            say(b", ");
+impl fmt::Display for Run {
+    fn fmt<W: fmt::Write>(&self, f: &mut fmt::Formatter<W>) -> fmt::Result {
+        write!(f, "vertex {} at tick {}", self.vertex, self.first)?;
+        let last = self.last();
+        if self.times == 1 {
+            return Ok(());
         }
-        let v = wide(path[i]);
-        let end = run_end(path, i);
-        let n = end - i;
-        let first = sum(tick, wait_before(task, path, i));
-        tick = say_run(v, n, first, separation(task, v, v));
-        load = sum(load, times(n, execution(task, v)));
-        i = end;
-    }
-    load
-}
-
-// Where the path whose length stands at `at` ends: the cells' end where they break off.
-fn path_end(cells: &[u16], at: usize) -> usize
-    requires { at < length cells.now }
-    ensures { (at + 1 ≤ result) × (result ≤ length cells.now) }
-{
-    let from = at + 1;
-    let len = wide(cells[at]) as usize;
-    if cells.len() - from < len {
-        return cells.len();
-    }
-    from + len
-}
-
-// The line of task j's path; gives its load.
-fn say_task(j: usize, task: Task, path: &[u16]) -> u32
-    requires { j < most_tasks }
-{
-    say_with(b"    task #0: ", [j as u32, 0, 0, 0]);
-    let load = say_path(task, path);
-    end_line();
-    load
-}
-
-// The paths in the cells, a line each; gives their loads together.
-pub(crate) fn say_releases(table: Table, cells: &[u16]) -> u32 {
-    let mut loads: u32 = 0;
-    let mut at: usize = 0;
-    let mut j: usize = 0;
-    while at < cells.len() {
-        if j == MOST_TASKS {
-            return loads;
+        if self.wait == 1 {
+            return write!(f, " and every tick up to tick {last}");
         }
-        let task = table.tasks[j];
-        let from = at + 1;
-        let end = path_end(cells, at);
-        loads = sum(loads, say_task(j, task, &cells[from..end]));
-        at = end;
-        j += 1;
+        write!(f, " and every {} ticks up to tick {last}", self.wait)
     }
-    loads
+}
+
+// One path's releases: the first at tick 0.
+impl fmt::Display for Path<'_> {
+    fn fmt<W: fmt::Write>(&self, f: &mut fmt::Formatter<W>) -> fmt::Result {
+        let mut tick: u64 = 0;
+        let mut before = None;
+        let mut rest = self.vertices;
+        while let Some(vertex) = rest.first() {
+            if let Some(from) = before {
+                write!(f, ", ")?;
+                tick = tick.saturating_add(self.separation(from, *vertex));
+            }
+            let (released, behind) = rest.split_at(run_length(rest));
+            // The length by `as`, since no `From` leads from usize to u64.
+            let run = Run {
+                vertex: *vertex,
+                times: released.len() as u64,
+                first: tick,
+                wait: self.separation(*vertex, *vertex),
+            };
+            write!(f, "{run}")?;
+            tick = run.last();
+            before = Some(*vertex);
+            rest = behind;
+        }
+        Ok(())
+    }
+}
+
+// A line for each path.
+impl fmt::Display for Releases<'_> {
+    fn fmt<W: fmt::Write>(&self, f: &mut fmt::Formatter<W>) -> fmt::Result {
+        let mut cells = self.cells;
+        for (j, task) in self.table.tasks.iter().enumerate() {
+            let Some((vertices, rest)) = first_path(cells) else {
+                break;
+            };
+            writeln!(f, "    task {j}: {}", Path { task, vertices })?;
+            cells = rest;
+        }
+        Ok(())
+    }
 }

@@ -1,146 +1,137 @@
 // A vertex's line, after a miss what shows it, and where it is asked for after a meets what makes it so late.
-ghost use Rattle.std.specs.Prelude.{◌≤◌};
-
-use crate::masks::{Masked, say_masked};
-use crate::numbers::{excess, sum};
-use crate::print::{end_line, say, say_with};
-use crate::refusals::say_refusal;
-use crate::releases::say_releases;
+use crate::masks::Masked;
+use crate::print::Plural;
+use crate::refusals::Refused;
+use crate::releases::Releases;
 use bounds::DESK_BUDGET;
-use kinds::{RefusedAt, Ticks, Verdict};
+use counts::places::Place;
+use kinds::{Ticks, Verdict};
+use std::fmt;
 use table::{Table, Vertex};
 
-// How late a meets is at worst, and how many witness cells its paths have. A finish of 0 wasn't found within the budget.
+// How late a meets is at worst, and how many witness cells its paths have.
 #[derive(Clone, Copy)]
-pub struct Worst {
-    pub finish: u32,
+pub(crate) struct Worst {
+    pub finish: Ticks,
     pub cells: u32,
 }
 
-fn least(a: usize, b: usize) -> usize
-    ensures { result ≤ b }
-{
-    if a < b {
-        return a;
+// One vertex of a table, and what it is judged to be. No worst finish where the verdict is no meets, and where none was found within the budget.
+#[derive(Drop)]
+pub(crate) struct Judged<'a> {
+    pub table: &'a Table,
+    pub at: Place,
+    pub job: Vertex,
+    pub masked: Option<Masked>,
+    pub verdict: Verdict,
+    pub worst: Option<Worst>,
+    pub witness: &'a [u16],
+    pub why: bool,
+}
+
+impl Judged<'_> {
+    // Neither call writes more cells than there are. By `as`, since no `From` leads from u32 to usize.
+    fn releases(&self, cells: u32) -> Releases<'_> {
+        let n = self.witness.len().min(cells as usize);
+        Releases {
+            table: self.table,
+            cells: &self.witness[..n],
+        }
     }
-    b
-}
 
-// Task 0 has no higher tasks, and the worst finish of its vertices no cells.
-fn say_cause(table: Table, cells: &[u16]) {
-    if cells.len() == 0 {
-        say(b", with nothing above it\n");
-        return;
+    fn write_masked<W: fmt::Write>(&self, f: &mut fmt::Formatter<W>) -> fmt::Result {
+        match self.masked {
+            Some(masked) => write!(f, "{masked}"),
+            None => Ok(()),
+        }
     }
-    say(b", by these releases:\n");
-    say_releases(table, cells);
-}
 
-// The figure beside a meets: how late at worst, and how much earlier than the deadline that is.
-fn say_worst(d: Ticks, masked: Masked, groups: u32, finish: u32) {
-    let spare = excess(d.0 as u32, finish);
-    say_with(b", at worst after #0", [finish, 0, 0, 0]);
-    say_masked(masked);
-    say_with(
-        b", #0 to spare (#1 group%1 examined)",
-        [spare, groups, 0, 0],
-    );
-}
-
-fn say_meets(
-    table: Table,
-    d: Ticks,
-    masked: Masked,
-    groups: u32,
-    finish: u32,
-    why: bool,
-    cells: &[u16],
-) {
-    say_with(b"meets its deadline of #0 tick%0", [d.0 as u32, 0, 0, 0]);
-    if finish == 0 {
-        say_with(
-            b" (#0 group%0 examined; its worst finish wasn't found within #1 group%1)\n",
-            [groups, DESK_BUDGET, 0, 0],
-        );
-        return;
+    // Task 0 has no higher tasks, and the worst finish of its vertices no cells.
+    fn write_cause<W: fmt::Write>(&self, f: &mut fmt::Formatter<W>, cells: u32) -> fmt::Result {
+        let releases = self.releases(cells);
+        if releases.cells.is_empty() {
+            return writeln!(f, ", with nothing above it");
+        }
+        write!(f, ", by these releases:\n{releases}")
     }
-    say_worst(d, masked, groups, finish);
-    if why {
-        say_cause(table, cells);
-        return;
-    }
-    end_line();
-}
 
-// The work due by the deadline: the vertex's own e, a lower task's masked time, and the paths' loads.
-fn say_due(job: Vertex, masked: Masked, loads: u32) {
-    let own = job.e.0 as u32;
-    let due = sum(sum(own, masked.ticks), loads);
-    let over = excess(due, job.d.0 as u32);
-    say_with(b"    #0 tick%0 of work", [due, 0, 0, 0]);
-    say_masked(masked);
-    say_with(
-        b" are due by the deadline, #0 of them its own: #1 tick%1 too many\n",
-        [own, over, 0, 0],
-    );
-}
-
-// Task 0 has no higher tasks, and a miss of its vertices no cells; only with masked time can there be one (`OwnDeadline` of the judge's demands).
-fn say_misses(table: Table, job: Vertex, masked: Masked, groups: u32, cells: &[u16]) {
-    say_with(
-        b"MISSES its deadline of #0 tick%0 (#1 group%1 examined)",
-        [job.d.0 as u32, groups, 0, 0],
-    );
-    if cells.len() == 0 {
-        say(b", with nothing above it:\n");
-        say_due(job, masked, 0);
-        return;
-    }
-    say(b", shown by these releases:\n");
-    let loads = say_releases(table, cells);
-    say_due(job, masked, loads);
-}
-
-fn say_unfinished(budget: u32) {
-    say_with(
-        b"UNFINISHED: the search was cut short after #0 group%0; this is neither a yes nor a no\n",
-        [budget, 0, 0, 0],
-    );
-}
-
-fn say_refused(at: RefusedAt) {
-    say_refusal(at);
-    say(b", so this was not judged\n");
-}
-
-pub(crate) fn say_verdict(
-    table: Table,
-    job: Vertex,
-    masked: Masked,
-    verdict: Verdict,
-    worst: Worst,
-    why: bool,
-    witness: &[u16],
-) {
-    match verdict {
-        // Neither call writes more cells than there are.
-        Verdict::Meets(groups) => {
-            let n = least(worst.cells as usize, witness.len());
-            say_meets(
-                table,
-                job.d,
-                masked,
-                groups,
-                worst.finish,
-                why,
-                &witness[..n],
+    // Beside a meets how late at worst, and how much earlier than the deadline that is.
+    fn write_meets<W: fmt::Write>(&self, f: &mut fmt::Formatter<W>, groups: u32) -> fmt::Result {
+        let d = self.job.d.0;
+        let examined = Plural(u64::from(groups), "group");
+        write!(f, "meets its deadline of {}", Plural(u64::from(d), "tick"))?;
+        let Some(worst) = self.worst else {
+            let budget = Plural(u64::from(DESK_BUDGET), "group");
+            return writeln!(
+                f,
+                " ({examined} examined; its worst finish wasn't found within {budget})"
             );
+        };
+        let finish = worst.finish.0;
+        write!(f, ", at worst after {finish}")?;
+        self.write_masked(f)?;
+        write!(
+            f,
+            ", {} to spare ({examined} examined)",
+            d.saturating_sub(finish)
+        )?;
+        if self.why {
+            return self.write_cause(f, worst.cells);
         }
-        Verdict::Misses(groups, cells) => {
-            let n = least(cells as usize, witness.len());
-            say_misses(table, job, masked, groups, &witness[..n]);
+        writeln!(f)
+    }
+
+    // The work due by the deadline: the vertex's own e, a lower task's masked time, and the paths' loads.
+    fn write_due<W: fmt::Write>(&self, f: &mut fmt::Formatter<W>, load: u64) -> fmt::Result {
+        let own = u64::from(self.job.e.0);
+        let masked = self.masked.map_or(0, |masked| u64::from(masked.ticks.0));
+        let due = load.saturating_add(own + masked);
+        write!(f, "    {} of work", Plural(due, "tick"))?;
+        self.write_masked(f)?;
+        let over = Plural(due.saturating_sub(u64::from(self.job.d.0)), "tick");
+        writeln!(
+            f,
+            " are due by the deadline, {own} of them its own: {over} too many"
+        )
+    }
+
+    // Task 0 has no higher tasks, and a miss of its vertices no cells; only with masked time can there be one (`OwnDeadline` of the judge's demands).
+    fn write_misses<W: fmt::Write>(
+        &self,
+        f: &mut fmt::Formatter<W>,
+        groups: u32,
+        cells: u32,
+    ) -> fmt::Result {
+        let deadline = Plural(u64::from(self.job.d.0), "tick");
+        write!(
+            f,
+            "MISSES its deadline of {deadline} ({} examined)",
+            Plural(u64::from(groups), "group")
+        )?;
+        let releases = self.releases(cells);
+        if releases.cells.is_empty() {
+            writeln!(f, ", with nothing above it:")?;
+        } else {
+            write!(f, ", shown by these releases:\n{releases}")?;
         }
-        Verdict::Unfinished(budget) => say_unfinished(budget),
-        Verdict::Refused(at) => say_refused(at),
+        self.write_due(f, releases.load())
+    }
+}
+
+impl fmt::Display for Judged<'_> {
+    fn fmt<W: fmt::Write>(&self, f: &mut fmt::Formatter<W>) -> fmt::Result {
+        write!(f, "task {}, vertex {}: ", self.at.task.0, self.at.vertex.0)?;
+        match self.verdict {
+            Verdict::Meets(groups) => self.write_meets(f, groups),
+            Verdict::Misses(groups, cells) => self.write_misses(f, groups, cells),
+            Verdict::Unfinished(budget) => {
+                let groups = Plural(u64::from(budget), "group");
+                writeln!(
+                    f,
+                    "UNFINISHED: the search was cut short after {groups}; this is neither a yes nor a no"
+                )
+            }
+            Verdict::Refused(at) => writeln!(f, "{}, so this was not judged", Refused(at)),
+        }
     }
 }

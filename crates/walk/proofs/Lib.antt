@@ -1,3 +1,4 @@
+pub mod Places
 pub mod Stepping
 pub mod Running
 pub mod Paths

@@ -7,23 +7,24 @@ use native.Mathlib.Numerals.{add-one}
 use mathlib.Core.Bool.{Bool, true, false}
 use mathlib.Core.Option.{Option, none, some}
 use mathlib.Core.List.{List, []}
-use lib.ListN.{length, take, length-map, length-append, length-drop, length-replicate}
+use lib.ListN.{length, length-map, length-append, length-drop, length-replicate}
 use lib.Dec.{ltb}
 use Rattle.meaning.specs.Lists.{pick}
 use Rattle.walk.specs.declared.Examined.{Examined}
 use Rattle.walk.specs.declared.Examined.TheVariants.{Next, Last, Witness}
 use Rattle.walk.specs.declared.Walked.{Walked}
-use Rattle.walk.specs.declared.Ending.TheVariants.{Meets, Misses, Unfinished}
 use Rattle.rows.specs.Ranges.{Range}
 use Rattle.groups.specs.Groups.{firsts, top_group, all_single, first_child, next_group, InWalk}
-use Rattle.walk.specs.Steps.{in_places, Best, best, WalkStep, step_to, onward_by, descend_by, group_finish, examine, walk_end, run_by, run_from, run_rows}
+use Rattle.walk.specs.declared.Best.{Best}
+use Rattle.walk.specs.Steps.{in_places, best, WalkStep, step_to, onward_by, descend_by, group_finish, examine, run_by, run_from, run_rows}
 use Rattle.meaning.specs.Bounds.{most_higher}
-use Rattle.groups.specs.Lent.{Arrays, arrays, group_in, largest_index, Standing, Stands}
-use Rattle.walk.specs.Lent.{Walkable, Unused, StepsOver}
+use Rattle.groups.specs.declared.Stretch.{Stretch}
+use Rattle.groups.specs.declared.Part.{Part}
+use Rattle.groups.specs.Lent.{roots, counts, group_in, largest_index, Standing, Stands}
+use Rattle.walk.specs.Lent.{WalkableOver, StepsOver}
 use Rattle.groups.proofs.Pending.{filled_top, walk_length}
-use Rattle.groups.proofs.LaidOut.{wider, counts_filled}
-use Rattle.groups.proofs.Arrays.{holds_own}
-use Rattle.walk.proofs.Stepping.{examine_walk, first-places}
+use Rattle.groups.proofs.LaidOut.{wider, all_filled}
+use Rattle.walk.proofs.Stepping.{examine_walk, stands_standing}
 
 -- ---- a step of the run
 
@@ -42,75 +43,44 @@ module _ (fin : List Range → ℕ) (d : ℕ) (ns : List ℕ) (b n : ℕ) (l : n
 
 -- ---- a run of the code
 
--- after n groups the arrays hold the next, the bar is s, and going on from there gives the whole answer
-pub record Going (h d e from b : ℕ) (root count work : List ℕ) (a : Arrays) (s : Best) (n : ℕ) : Type 0 where
-  pub standing : Standing h d root count a
-  pub zeros : Unused h a.first
-  pub most : n ≤ b
-  pub same : run_rows work d e (take h root) (take h count) from b
-      ≡ run_from (group_finish work d e (take h root)) d (take h count) (b - n) n s (group_in h a)
+-- after n groups the parts hold the next, the bar is s, and going on from there gives the whole answer
+pub record Going (d e from b : ℕ) (ss : List Stretch) (work : List ℕ) (a : List Part) (s : Best) (n : ℕ) : Type 0 where
+  pub standing : Standing d ss a
+  pub same : run_rows work d e (roots ss) (counts ss) from b
+      ≡ run_from (group_finish work d e (roots ss)) d (counts ss) (b - n) n s (group_in a)
 
-module _ {h d e : ℕ} {root count work : List ℕ} (f : Walkable h d e root count work) where
+module _ (ss : List Stretch) {d e : ℕ} {work : List ℕ} (f : WalkableOver d e ss work) where
   abbrev fin : List Range → ℕ
-  fin = group_finish work d e (take h root)
+  fin = group_finish work d e (roots ss)
 
   abbrev ns : List ℕ
-  ns = take h count
+  ns = counts ss
 
   abbrev whole : ℕ → ℕ → Walked
-  whole from b = run_rows work d e (take h root) ns from b
+  whole from b = run_rows work d e (roots ss) ns from b
 
   module _ {from b : ℕ} where
-    pub going_top : length work ≤ largest_index → {a : Arrays} → Stands h d root (arrays (in_places []) (in_places []) (in_places [])) a (top_group ns)
-        → Going h d e from b root count work a (best from (in_places [])) 0
+    pub going_top : length work ≤ largest_index → {a : List Part} → Stands d ss a (top_group ns) → Going d e from b ss work a (best from (in_places [])) 0
     going_top l s =
         record {
-          standing = record {
-            stretches = wider f.stretches l;
-            holds = holds_own s.holds;
-            reached = rw s.holds.group (filled_top ns (counts_filled f.stretches));
-          };
-          zeros = s.firsts;
-          most = omega arith;
-          same = ap₂ (λ (k : ℕ) (xs : List Range). run_from fin d ns k 0 (best from (in_places [])) xs) (sym (sub-zero b)) (sym s.holds.group);
+          standing = stands_standing (wider f.stretches l) s (filled_top ns (all_filled ss f.stretches));
+          same = ap₂ (λ (k : ℕ) (xs : List Range). run_from fin d ns k 0 (best from (in_places [])) xs) (sym (sub-zero b)) (sym s.group);
         }
 
-    module _ {a : Arrays} {s : Best} {n : ℕ} (g : Going h d e from b root count work a s n) where
+    module _ {a : List Part} {s : Best} {n : ℕ} (g : Going d e from b ss work a s n) where
       abbrev to : WalkStep
-      to = examine fin d ns s (group_in h a)
+      to = examine fin d ns s (group_in a)
 
-      pub going_out : b ≤ n → walk_end (Unfinished b) 0 s.places ≡ whole from b
-      going_out l =
-          let m = g.most in
-          let k : b - n ≡ 0 = omega arith in
-          let q : n ≡ b = omega arith in
-          sym (g.same ∙ ap (λ (z : ℕ). run_from fin d ns z n s (group_in h a)) k ∙ ap (λ (z : ℕ). walk_end (Unfinished z) 0 s.places) q)
-
-      module _ (l : n < b) {told : Examined} {t : Best} {base' first' len' : List ℕ}
-          (x : StepsOver h d e work root count s a told t (arrays base' first' len')) where
+      module _ (l : n < b) {told : Examined} {t : Best} {c : List Part} (x : StepsOver d e work ss s a told t c) where
         on_told : (u : Examined) → told ≡ u → whole from b ≡ run_by n (further fin d ns b n l) u to.best to.group
-        on_told u q = g.same ∙ run_told fin d ns b n l s (group_in h a) u (sym q ∙ x.says)
+        on_told u q = g.same ∙ run_told fin d ns b n l s (group_in a) u (sym q ∙ x.says)
 
-        pub going_next : told ≡ Next → Going h d e from b root count work (arrays base' first' len') t (n + 1)
+        pub going_next : told ≡ Next → Going d e from b ss work c t (n + 1)
         going_next q =
             record {
-              standing = record {
-                stretches = g.standing.stretches;
-                holds = holds_own x.stands.holds;
-                reached = rw x.stands.holds.group (examine_walk fin d ns s (group_in h a) g.standing.reached);
-              };
-              zeros = x.stands.firsts ∙ g.zeros;
-              most = omega arith;
-              same = on_told Next q ∙ ap₂ (run_from fin d ns (b - (n + 1)) (n + 1)) (sym x.bar) (sym x.stands.holds.group);
+              standing = stands_standing g.standing.stretches x.stands (examine_walk fin d ns s (group_in a) g.standing.reached);
+              same = on_told Next q ∙ ap₂ (run_from fin d ns (b - (n + 1)) (n + 1)) (sym x.bar) (sym x.stands.group);
             }
-
-        pub going_last : told ≡ Last → walk_end (Meets (n + 1)) t.tick t.places ≡ whole from b
-        going_last q = sym (on_told Last q ∙ ap₂ (λ (k : ℕ) (z : Best). walk_end (Meets k) z.tick z.places) (sym (add-one n)) (sym x.bar))
-
-        pub going_witness : told ≡ Witness → walk_end (Misses (n + 1)) 0 first' ≡ whole from b
-        going_witness q =
-            ap₂ (λ (k : ℕ) (ps : List ℕ). walk_end (Misses k) 0 ps) (add-one n)
-            (first-places f.stretches.few x.stands.holds (x.stands.firsts ∙ g.zeros)) ∙ sym (on_told Witness q)
 
 -- the array of places is whole
 module _ (fin : List Range → ℕ) (d : ℕ) (ns : List ℕ) (few : length ns ≤ most_higher) where

@@ -19,7 +19,8 @@ use Rattle.walk.specs.declared.Ending.TheVariants.{Meets, Misses, Unfinished}
 use Rattle.walk.specs.declared.Walked.{Walked}
 use Rattle.rows.specs.Ranges.{Range}
 use Rattle.groups.specs.Groups.{firsts, top_group, all_single, first_child, next_group, InWalk}
-use Rattle.walk.specs.Steps.{in_places, Best, best, WalkStep, step_to, onward_by, onward, examine, walk_end, run_on, run_from}
+use Rattle.walk.specs.declared.Best.{Best}
+use Rattle.walk.specs.Steps.{in_places, best, WalkStep, step_to, onward_by, onward, examine, walk_end, run_on, run_from}
 use Rattle.walk.specs.Told.{sizes, chosen, AtPaths, Places, Says}
 use Rattle.groups.proofs.Pending.{Filled, filled_top, walk_child, pending, pending_top, pending_child, FirstPending, next-pending}
 use Rattle.walk.proofs.Paths.{group_of, group_single, group_first_child, group_second_child, group_top, chosen_heads, firsts-at_paths}

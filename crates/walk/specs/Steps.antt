@@ -9,6 +9,7 @@ use Rattle.walk.specs.declared.Examined.TheVariants.{Next, Last, Witness}
 use Rattle.walk.specs.declared.Ending.{Ending}
 use Rattle.walk.specs.declared.Ending.TheVariants.{Meets, Misses, Unfinished}
 use Rattle.walk.specs.declared.Walked.{Walked}
+use Rattle.walk.specs.declared.Best.{Best}
 use Rattle.rows.specs.Ranges.{Range}
 use Rattle.groups.specs.Groups.{firsts, row_starts, top_group, child_group, next_group}
 use Rattle.overload.specs.Rows.{rows_finish}
@@ -18,10 +19,6 @@ abbrev pub in_places : List ℕ → List ℕ
 in_places ps = written ps (replicate most_higher 0)
 
 -- the bar: a tick, and the places of the single choice that raised it to its finish, if one did
-pub record Best : Type 0 where
-  pub tick : ℕ
-  pub places : List ℕ
-
 abbrev pub best : ℕ → List ℕ → Best
 best t ps = record { tick = t; places = ps }
 

@@ -7,5 +7,6 @@ use telling::say_table;
 fn main() {
     let mut bytes = [0u8; LONGEST_INPUT + 1];
     let n = io::read_full(0, &mut bytes);
-    say_table(&bytes[..n], true);
+    // What it gives is among the words.
+    let _ = say_table(&bytes[..n], true);
 }

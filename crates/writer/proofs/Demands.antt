@@ -6,6 +6,7 @@ use mathlib.Core.Option.{some}
 use mathlib.Core.List.{List, [], ◌∷◌, map}
 use lib.ListN.{length, take, drop, length-append, length-drop}
 use lib.Seq.{take_at, drop-append_seam}
+use Rattle.std.specs.Prelude.{Result, Ok, Err}
 use Rattle.meaning.specs.Lists.{gather}
 use Rattle.meaning.specs.Bounds.{most_tasks}
 use Rattle.meaning.specs.Table as Meant
@@ -29,14 +30,10 @@ use Rattle.table.specs.declared.Table.{Table}
 use Rattle.table.specs.Record.{table_record, table_held}
 use Rattle.table.proofs.Record.{table_held_record}
 use Rattle.table.proofs.Holding.{tasks_length_lem}
-use Rattle.reader.specs.declared.Reading.{Reading}
-use Rattle.reader.specs.declared.Status.{Status}
-use Rattle.reader.specs.Record.{status_numbers, Reads}
+use Rattle.reader.specs.Record.{Reads}
 use Rattle.reader.proofs.Result.{table_read}
 use Rattle.checks.proofs.Sound.{ruled_refused, ninth_ruled, counts_ruled, slip_ruled, mask_ruled, none-ruled}
-use Rattle.writer.specs.declared.Written.{Written}
-use Rattle.writer.specs.declared.Written.TheVariants.{Bytes, Refused}
-use Rattle.writer.specs.Written.{written_numbers, Writes}
+use Rattle.writer.specs.Written.{Written, written_numbers, Writes}
 use Rattle.writer.specs.Settled.{WriteSettled}
 use Rattle.writer.specs.Demands.{ReadBack, WrittenBack, OneText, AsPlainTasks, OnlyForms, ReadAgain, WriteCall, Demands}
 use Rattle.writer.proofs.Outcomes.{text_means, Outcome, fits, short, broken, outcome, sound_apart}
@@ -50,11 +47,11 @@ value_of : {a b c d : ℕ} → a ∷ b ∷ [] ≡ c ∷ d ∷ [] → b ≡ d
 value_of e = cc
 
 pub same-written : (r s : Written) → written_numbers r ≡ written_numbers s → r ≡ s
-same-written (Bytes n) (Bytes m) e = ap Bytes (value_of e)
-same-written (Bytes n) (Refused at) e = absurd (omega (arith, number_of e, number_some at.refusal))
-same-written (Refused at) (Bytes m) e = absurd (omega (arith, number_of e, number_some at.refusal))
-same-written (Refused a) (Refused b) e =
-    ap₂ (λ (w : Refusal) (n : ℕ). Refused (record { refusal = w; place = n })) (same-refusal a.refusal b.refusal (number_of e)) (value_of e)
+same-written (Ok n) (Ok m) e = ap Ok (value_of e)
+same-written (Ok n) (Err at) e = absurd (omega (arith, number_of e, number_some at.refusal))
+same-written (Err at) (Ok m) e = absurd (omega (arith, number_of e, number_some at.refusal))
+same-written (Err a) (Err b) e =
+    ap₂ (λ (w : Refusal) (n : ℕ). Err (record { refusal = w; place = n })) (same-refusal a.refusal b.refusal (number_of e)) (value_of e)
 
 pub write-settled : WriteSettled
 write-settled t before r s after other p q = (same-written r s (p.answer ∙ sym q.answer), p.area ∙ sym q.area)
@@ -78,7 +75,7 @@ module _ {t : Table} {before : List ℕ} {r : Written} {after : List ℕ} (w : W
     pub bytes : n ≡ length (text_of ts)
     pub area : after ≡ written (text_of ts) before
 
-  pub written_as : (n : ℕ) → r ≡ Bytes n → WrittenAs n
+  pub written_as : (n : ℕ) → r ≡ Ok n → WrittenAs n
   written_as n e = go (outcome ts room)
     where
       said : {k m : ℕ} → writing ts room ≡ unwritable k m → 0 ≡ k
@@ -100,7 +97,7 @@ module _ {t : Table} {before : List ℕ} {r : Written} {after : List ℕ} (w : W
       ap₂ (λ (k : ℕ) (l : List ℕ). take k l) a.bytes a.area
       ∙ take_at (text_of ts) (drop (length (text_of ts)) before) (length (text_of ts)) refl
 
-  refused_as : (at : RefusedAt) → r ≡ Refused at → after ≡ before
+  refused_as : (at : RefusedAt) → r ≡ Err at → after ≡ before
   refused_as at e = go (outcome ts room)
     where
       go : Outcome ts room → after ≡ before
@@ -121,11 +118,11 @@ module _ {t : Table} {before : List ℕ} {r : Written} {after : List ℕ} (w : W
           let b : m ≡ n = cc in
           gets q ∙ ap₂ (λ (x y : ℕ). x ∷ y ∷ []) a b
 
-  sound_written : SoundTable ts → length (text_of ts) ≤ room → r ≡ Bytes (length (text_of ts))
+  sound_written : SoundTable ts → length (text_of ts) ≤ room → r ≡ Ok (length (text_of ts))
   sound_written s h = go (outcome ts room)
     where
-      go : Outcome ts room → r ≡ Bytes (length (text_of ts))
-      go (fits i l q) = same-written r (Bytes (length (text_of ts))) (w.answer ∙ ap writing_numbers q)
+      go : Outcome ts room → r ≡ Ok (length (text_of ts))
+      go (fits i l q) = same-written r (Ok (length (text_of ts))) (w.answer ∙ ap writing_numbers q)
       go (short i l q) = absurd (omega arith)
       go (broken k n u q) = sound_apart ts s u
 
@@ -195,58 +192,49 @@ module _ {t : Table} {before : List ℕ} {r : Written} {after : List ℕ} (w : W
 
 -- ---- there and back
 
-readable_status : (text : List ℕ) (ts : Meant.Table) (q : Reading) → read text ≡ readable ts → Reads text q → q.status ≡ Status.Readable
-readable_status text ts q e r = go q.status (r.status ∙ ap checked e)
-  where
-    go : (s : Status) → status_numbers s ≡ 0 ∷ 0 ∷ [] → s ≡ Status.Readable
-    go Status.Readable k = refl
-    go (Status.Refused at) k = absurd (omega (arith, number_of k, number_some at.refusal))
+readable_record : (text : List ℕ) (ts : Meant.Table) (q : Result Table RefusedAt) → read text ≡ readable ts → Reads text q → q ≡ Ok (table_record ts)
+readable_record text ts (Ok t) e r = ap Ok (r.table ∙ ap (λ (m : Text.Reading). table_record (Text.tasks_of m)) e)
+readable_record text ts (Err at) e r = absurd (omega (arith, number_of (r.status ∙ ap checked e), number_some at.refusal))
 
 read_back : ReadBack
 read_back t before n after q w r =
     let a = written_as w n refl in
     let ts = table_held t in
-    let means : read (take n after) ≡ readable ts = ap read (front_is w n a) ∙ text_means ts a.sound in (
-      readable_status (take n after) ts q means r,
-      ap table_held (r.table ∙ ap (λ (m : Text.Reading). table_record (Text.tasks_of m)) means) ∙ table_held_record ts,
-    )
+    let means : read (take n after) ≡ readable ts = ap read (front_is w n a) ∙ text_means ts a.sound in
+    (table_record ts, readable_record (take n after) ts q means r, table_held_record ts)
 
 -- what a reading says of a readable text
-means_held : (text : List ℕ) (q : Reading) → Reads text q → q.status ≡ Status.Readable → read text ≡ readable (table_held q.table)
-means_held text q r s = let k = table_read text q r s in k.means ∙ ap readable (sym (ap table_held k.is ∙ table_held_record _))
+means_held : (text : List ℕ) (t : Table) → Reads text (Ok t) → read text ≡ readable (table_held t)
+means_held text t r = let k = table_read text (Ok t) r refl in k.means ∙ ap readable (sym (ap table_held k.is ∙ table_held_record _))
 
 written_back : WrittenBack
-written_back text q before r after plain reads s room w =
-    let ts = table_held q.table in
-    let means = means_held text q reads s in
+written_back text t before r after plain reads room w =
+    let ts = table_held t in
+    let means = means_held text t reads in
     let back : text_of ts ≡ text = text_of-read text ts plain means in
-    let is : r ≡ Bytes (length text) = sound_written w (read_sound text ts means) (omega (arith, ap length back)) ∙ ap Bytes (ap length back) in
+    let is : r ≡ Ok (length text) = sound_written w (read_sound text ts means) (omega (arith, ap length back)) ∙ ap Ok (ap length back) in
     (is, front_is w (length text) (written_as w (length text) is) ∙ back)
 
 one_text : OneText
-one_text text other q o a b p r s u e =
-    sym (text_of-read text (table_held q.table) a (means_held text q p s))
-    ∙ ap text_of e
-    ∙ text_of-read other (table_held o.table) b (means_held other o r u)
+one_text text other t u a b p r e =
+    sym (text_of-read text (table_held t) a (means_held text t p)) ∙ ap text_of e ∙ text_of-read other (table_held u) b (means_held other u r)
 
 -- ---- rings and gear tables
 
 as_plain_tasks : AsPlainTasks
 as_plain_tasks fs q s r =
-    let means : read (text_of_forms fs) ≡ readable (map task_of fs) = forms_read fs s in (
-      readable_status (text_of_forms fs) (map task_of fs) q means r,
-      ap table_held (r.table ∙ ap (λ (m : Text.Reading). table_record (Text.tasks_of m)) means) ∙ table_held_record (map task_of fs),
-    )
+    let ts = map task_of fs in
+    (table_record ts, readable_record (text_of_forms fs) ts q (forms_read fs s) r, table_held_record ts)
 
 only_forms : OnlyForms
-only_forms text q reads s = let f = forms_back text (table_held q.table) (means_held text q reads s) in (f.forms, f.spelt, f.meant)
+only_forms text t reads = let f = forms_back text (table_held t) (means_held text t reads) in (f.forms, f.spelt, f.meant)
 
 read_again : ReadAgain
-read_again text q before r after reads s room w =
-    let ts = table_held q.table in
-    let means = means_held text q reads s in
+read_again text t before r after reads room w =
+    let ts = table_held t in
+    let means = means_held text t reads in
     let sound = read_sound text ts means in
-    let is : r ≡ Bytes (length (text_of ts)) = sound_written w sound room in
+    let is : r ≡ Ok (length (text_of ts)) = sound_written w sound room in
     let front = front_is w (length (text_of ts)) (written_as w (length (text_of ts)) is) in
     let same : read text ≡ read (take (length (text_of ts)) after) = means ∙ sym (ap read front ∙ text_means ts sound) in (
       is,

@@ -1,6 +1,6 @@
 -- What the customer asks of the writer, wish 4's sentences, of rings and gear tables, wish 5's, and of a job longer than its own deadline, wish 6's: for every
 -- call of `write` and `read` that their promises allow, and for every text's reading, which these promise. `proofs/Demands` proves it.
-use Rattle.std.specs.Prelude.{◌≡◌, ℕ, suc, ◌+◌, ◌-◌, ◌≤◌, ◌<◌, length, take, drop}
+use Rattle.std.specs.Prelude.{◌≡◌, ℕ, suc, ◌+◌, ◌-◌, ◌≤◌, ◌<◌, length, take, drop, Result, Ok, Err}
 use Rattle.std.proofs.Math.Option.{some}
 use mathlib.Core.List.{List, [], ◌∷◌, map, Memᴰ}
 use Rattle.meaning.specs.Lists.{gather}
@@ -14,12 +14,8 @@ use Rattle.meaning.specs.Rings.{Plain, Expansion, Form, task_of, text_of_forms}
 use Rattle.kinds.specs.declared.RefusedAt.{RefusedAt}
 use Rattle.table.specs.declared.Table.{Table}
 use Rattle.table.specs.Record.{table_record, table_held}
-use Rattle.reader.specs.declared.Reading.{Reading}
-use Rattle.reader.specs.declared.Status.TheVariants.{Readable}
 use Rattle.reader.specs.Record.{Reads}
-use Rattle.writer.specs.declared.Written.{Written}
-use Rattle.writer.specs.declared.Written.TheVariants.{Bytes, Refused}
-use Rattle.writer.specs.Written.{written_numbers, Writes}
+use Rattle.writer.specs.Written.{Written, written_numbers, Writes}
 
 -- ---- there and back
 
@@ -30,37 +26,36 @@ RecordHolds = (ts : Meant.Table) → table_held (table_record ts) ≡ ts
 -- "Reading what was written gives the same tasks, masked lengths, vertices and edges": of the n bytes that were written; what stands behind them in the
 -- area is no part of the text.
 abbrev pub ReadBack : Type 0
-ReadBack = (t : Table) (before : List ℕ) (n : ℕ) (after : List ℕ) (q : Reading) → Writes t before (Bytes n) after → Reads (take n after) q
-    → (q.status ≡ Readable) × (table_held q.table ≡ table_held t)
+ReadBack = (t : Table) (before : List ℕ) (n : ℕ) (after : List ℕ) (q : Result Table RefusedAt) → Writes t before (Ok n) after → Reads (take n after) q
+    → (u : Table) × (q ≡ Ok u) × (table_held u ≡ table_held t)
 
 -- "Writing what was read gives the same bytes", of a text without 05 to 07, in any area that has room for them; `short` below says what is where there is
 -- none.
 abbrev pub WrittenBack : Type 0
-WrittenBack = (text : List ℕ) (q : Reading) (before : List ℕ) (r : Written) (after : List ℕ) → Plain text → Reads text q → q.status ≡ Readable
-    → length text ≤ length before → Writes q.table before r after → (r ≡ Bytes (length text)) × (take (length text) after ≡ text)
+WrittenBack = (text : List ℕ) (t : Table) (before : List ℕ) (r : Written) (after : List ℕ) → Plain text → Reads text (Ok t)
+    → length text ≤ length before → Writes t before r after → (r ≡ Ok (length text)) × (take (length text) after ≡ text)
 
 -- "Two texts mean the same table only if they are equal", two without 05 to 07.
 abbrev pub OneText : Type 0
-OneText = (text other : List ℕ) (q o : Reading) → Plain text → Plain other → Reads text q → Reads other o → q.status ≡ Readable
-    → o.status ≡ Readable → table_held q.table ≡ table_held o.table → text ≡ other
+OneText = (text other : List ℕ) (t u : Table) → Plain text → Plain other → Reads text (Ok t) → Reads other (Ok u)
+    → table_held t ≡ table_held u → text ≡ other
 
 -- ---- rings and gear tables
 
 -- "Both are read as the plain task they stand for", beside plain tasks, if the tasks that they stand for are a table that keeps the rules
 abbrev pub AsPlainTasks : Type 0
-AsPlainTasks = (fs : List Form) (q : Reading) → SoundTable (map task_of fs) → Reads (text_of_forms fs) q
-    → (q.status ≡ Readable) × (table_held q.table ≡ map task_of fs)
+AsPlainTasks = (fs : List Form) (q : Result Table RefusedAt) → SoundTable (map task_of fs) → Reads (text_of_forms fs) q
+    → (t : Table) × (q ≡ Ok t) × (table_held t ≡ map task_of fs)
 
 -- and no other text is read: each that is has its tasks described in these ways
 abbrev pub OnlyForms : Type 0
-OnlyForms = (text : List ℕ) (q : Reading) → Reads text q → q.status ≡ Readable
-    → (fs : List Form) × (text ≡ text_of_forms fs) × (table_held q.table ≡ map task_of fs)
+OnlyForms = (text : List ℕ) (t : Table) → Reads text (Ok t) → (fs : List Form) × (text ≡ text_of_forms fs) × (table_held t ≡ map task_of fs)
 
 -- any table that was read is written in an area that has room for its plain text, which may be longer than the text that was read; and the same reading is
 -- the reading of what was written
 abbrev pub ReadAgain : Type 0
-ReadAgain = (text : List ℕ) (q : Reading) (before : List ℕ) (r : Written) (after : List ℕ) → Reads text q → q.status ≡ Readable
-    → let n = length (text_of (table_held q.table)) in n ≤ length before → Writes q.table before r after → (r ≡ Bytes n) × Reads (take n after) q
+ReadAgain = (text : List ℕ) (t : Table) (before : List ℕ) (r : Written) (after : List ℕ) → Reads text (Ok t)
+    → let n = length (text_of (table_held t)) in n ≤ length before → Writes t before r after → (r ≡ Ok n) × Reads (take n after) (Ok t)
 
 -- ---- what is written, and what is refused
 
@@ -89,13 +84,13 @@ module _ (t : Table) (before : List ℕ) (r : Written) (after : List ℕ) where
 
   pub record WriteCall : Type 0 where
     -- a table that breaks no rule is written, and no other; "then 10 with the bytes needed"
-    pub fits : SoundTable ts → length (text_of ts) ≤ length before → r ≡ Bytes (length (text_of ts))
+    pub fits : SoundTable ts → length (text_of ts) ≤ length before → r ≡ Ok (length (text_of ts))
     pub short : SoundTable ts → length before < length (text_of ts) → Gets 10 (length (text_of ts))
-    pub only_sound : (n : ℕ) → r ≡ Bytes n → SoundTable ts
+    pub only_sound : (n : ℕ) → r ≡ Ok n → SoundTable ts
     -- "writes the frames", of which `frame_of_task` says "01 is written for m = 0, 04 otherwise"
-    pub front : (n : ℕ) → r ≡ Bytes n → take n after ≡ text_of ts
+    pub front : (n : ℕ) → r ≡ Ok n → take n after ≡ text_of ts
     -- "the writer never writes those", 05 to 07
-    pub never_linked : (n : ℕ) → r ≡ Bytes n → Plain (take n after)
+    pub never_linked : (n : ℕ) → r ≡ Ok n → Plain (take n after)
     -- "A table that breaks a rule gets 2 to 5 with the line its frame would have", or wish 6's 13
     pub broken : (SoundTable ts → ⊥) → (k : ℕ) × (n : ℕ) × Gets k n × LineRow 2 5 k × (1 ≤ n) × (n ≤ length (frames_of ts))
     -- "first line first": what the reader says of these frames' lines; but for 1, which it says of a number that has no digits in them
@@ -115,8 +110,8 @@ module _ (t : Table) (before : List ℕ) (r : Written) (after : List ℕ) where
     pub mask : (i : ℕ) → Reached i → Allowed i → let k = Meant.task_at ts i in ((x : Meant.Vertex) → Memᴰ x k.vertices → SoundVertex x)
         → Meant.largest_e_in k.vertices < k.m → Gets 3 (line_of i + length k.vertices)
     -- "A refusal changes nothing; else the rest of the area is unchanged."
-    pub unchanged : (at : RefusedAt) → r ≡ Refused at → after ≡ before
-    pub rest : (n : ℕ) → r ≡ Bytes n → (length after ≡ length before) × (drop n after ≡ drop n before)
+    pub unchanged : (at : RefusedAt) → r ≡ Err at → after ≡ before
+    pub rest : (n : ℕ) → r ≡ Ok n → (length after ≡ length before) × (drop n after ≡ drop n before)
 
 abbrev pub WriteDemands : Type 0
 WriteDemands = (t : Table) (before : List ℕ) (r : Written) (after : List ℕ) → Writes t before r after → WriteCall t before r after

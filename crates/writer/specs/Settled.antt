@@ -1,8 +1,7 @@
 -- A record and an area have one answer: `proofs/Demands` proves it.
 use Rattle.std.specs.Prelude.{◌≡◌, ℕ, List}
 use Rattle.table.specs.declared.Table.{Table}
-use Rattle.writer.specs.declared.Written.{Written}
-use Rattle.writer.specs.Written.{Writes}
+use Rattle.writer.specs.Written.{Written, Writes}
 
 -- Two results that satisfy the statement of `write` coincide, in the answer and in every byte of the area.
 abbrev pub WriteSettled : Type 0

@@ -7,34 +7,23 @@ mod text;
 
 ghost use Rattle.writer.specs.Written.{Writes};
 
-use checks::{Check, check_table};
+use checks::check_table;
 use kinds::{Refusal, RefusedAt};
 use table::Table;
 use text::put_table;
 
-// Written, with the number of bytes; or refused.
-#[derive(Clone, Copy)]
-pub enum Written {
-    Bytes(usize),
-    Refused(RefusedAt),
-}
-
-pub fn write(t: Table, out: &mut [u8]) -> Written
-    ensures { Writes t out.old result out.new }
+// How many bytes were written.
+pub fn write(t: &Table, out: &mut [u8]) -> Result<usize, RefusedAt>
+    ensures { Writes t.now out.old result out.new }
 {
-    let checked = check_table(t);
-    let check = checked.check;
-    if let Check::Broken(at) = check {
-        return Written::Refused(at);
-    }
-    let need = checked.bytes;
+    let need = check_table(t)?;
     if out.len() < need {
         let place = need as u32;
-        return Written::Refused(RefusedAt {
+        return Err(RefusedAt {
             refusal: Refusal::WorkTooShort,
             place,
         });
     }
-    let end = put_table(out, t);
-    Written::Bytes(end)
+    let end = put_table(t, out);
+    Ok(end)
 }

@@ -1,10 +1,11 @@
+use mathlib.Core.Path.{◌≡◌}
 use Prim.Native.Nat.{◌-◌}
 use lib.ListN.{length}
 use Rattle.cells.proofs.Turns.{Turn}
 use Rattle.cells.proofs.table_from.Given as goal
 
-abbrev pub invariant-loop-at : goal.invariant-loop-at
-invariant-loop-at l = Turn l.cells l.t l.at
+abbrev pub invariant-loop-cells : goal.invariant-loop-cells
+invariant-loop-cells l = record { same_list : l.cells.list.now ≡ l.list; turn : Turn l.list l.t l.cells.at }
 
-abbrev pub decreases-loop-at : goal.decreases-loop-at
-decreases-loop-at l = length l.cells - l.at
+abbrev pub decreases-loop-cells : goal.decreases-loop-cells
+decreases-loop-cells l = length l.list - l.cells.at

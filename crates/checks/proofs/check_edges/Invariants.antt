@@ -1,13 +1,9 @@
-use mathlib.Core.Path.{◌≡◌}
-use Prim.Native.Nat.{◌+◌, ◌-◌}
-use Rattle.table.specs.Record.{vertices_held}
-use Rattle.table.proofs.Holding.{held_edge}
+use Prim.Native.Nat.{◌+◌}
+use mathlib.Core.List.{map}
+use Rattle.table.specs.Record.{vertex_of, edge_of}
 use Rattle.checks.proofs.InOrder.{Rest}
 use Rattle.checks.proofs.Parts.{edge_order}
 use Rattle.checks.proofs.check_edges.Given as goal
 
 abbrev pub invariant-loop-i : goal.invariant-loop-i
-invariant-loop-i l = (l.at ≡ l.line + l.i) × Rest (edge_order (vertices_held l.vertices l.n)) (held_edge l.edges) l.count (0, l.line) (l.least, l.at) l.i
-
-abbrev pub decreases-loop-i : goal.decreases-loop-i
-decreases-loop-i l = l.count - l.i
+invariant-loop-i l = Rest (edge_order (map vertex_of l.vertices)) (map edge_of l.edges) (0, l.line) (l.least, l.line + l.i) l.i

@@ -1,47 +1,77 @@
-use mathlib.Core.Path.{◌≡◌, sym, ◌∙◌}
-use mathlib.Core.Bool.{true}
+use mathlib.Core.Path.{◌≡◌, sym, ap, ◌∙◌}
+use Prim.Native.Nat.{ℕ, ◌+◌}
 use native.Mathlib.Omega.{arith}
-use Rattle.rules.proofs.Within.{task_bounds}
-use Rattle.frames.proofs.Answers.{held, failed}
-use Rattle.checks.proofs.Tasks.{inside, Covering, task-outside, task_broken, task_uncovered, task_covered}
+use lib.ListN.{length}
+use lib.Seq.{length-take-le}
 use borrow.Author.Rules.{rules}
+use Rattle.std.specs.Prelude.{Err}
+use Rattle.rules.proofs.Within.{task_bounds}
+use Rattle.kinds.specs.declared.Refusal.TheVariants.{OutOfBounds}
+use Rattle.checks.specs.Checks.{broken_by}
+use Rattle.checks.proofs.InOrder.{passed_on}
+use Rattle.checks.proofs.Tasks.{inside, Counted, task-outside, task_broken, task_uncovered, task_covered}
 use Rattle.checks.proofs.check_task.Goals as goal
-use Rattle.checks.proofs.check_task.Goals.{After-largest_e-largest, Else-not-task_in}
+use Rattle.checks.proofs.check_task.Goals.{After-task_in, Else-not-task_in}
 
--- ---- the places on the way: the task's own line is kept, its vertices' are and their largest e is known
+-- the test, of the task's own numbers
+in_is : (c : After-task_in) → c.task_in.result ≡ inside c.args.k.now
+in_is c = rw (c.from.ensures, c.from-2.ensures, c.from-3.ensures) at c.task_in.ensures
 
-own : (c : Else-not-task_in) → inside c.args.k ≡ true
-own c = held c.task_in.ensures c.if-not-task_in.false
-
-covering : (c : After-largest_e-largest) →
-    let a = c.args in
-    Covering a.k a.line c.largest_e-largest.result.0
-covering c =
-    record { own = held c.task_in.ensures c.if-not-task_in.false; kept = sym c.check_vertices-check.ensures ∙ c.in_default.is; is = c.largest_e-largest.ensures }
+-- the task's own line is kept
+counted : (c : Else-not-task_in) → Counted c.args.k.now
+counted c =
+    let own = sym (in_is (goal.at.Else-not-task_in c).After-task_in) ∙ c.if-not-task_in.false in
+    let b = task_bounds _ _ _ _ own in
+    let v : length c.args.k.now.vertices ≡ 12 = search rules in
+    let e : length c.args.k.now.edges ≡ 32 = search rules in
+    record { own = own; vertices_in = omega arith; edges_in = omega arith }
 
 pub returns-then-not-task_in : goal.returns-then-not-task_in
 returns-then-not-task_in c =
     let a = c.args in
-    task-outside a.k a.line (failed c.task_in.ensures c.if-not-task_in.true) c.broken.ensures
+    task-outside a.k.now a.line (sym (in_is (goal.at.returns-then-not-task_in c).After-task_in) ∙ c.if-not-task_in.true) (ap Err c.at_line.ensures)
 
-pub check_vertices-check-requires : goal.check_vertices-check-requires
-check_vertices-check-requires c = let b = task_bounds _ _ _ _ (own (goal.at.check_vertices-check-requires c).Else-not-task_in) in (omega arith, search rules)
+pub shared_ref_as_front-vertices : goal.shared_ref_as_front-vertices
+shared_ref_as_front-vertices c = let b = task_bounds _ _ _ _ (sym c.task_in.ensures ∙ c.if-not-task_in.false) in omega arith
 
-pub returns-in-Broken : goal.returns-in-Broken
-returns-in-Broken c =
-    let a = c.args in
-    task_broken a.k a.line (own (goal.at.returns-in-Broken c).Else-not-task_in) c.check_vertices-check.ensures c.in-Broken.is
+pub shared_ref_as_front-edges : goal.shared_ref_as_front-edges
+shared_ref_as_front-edges c = let b = task_bounds _ _ _ _ (sym c.task_in.ensures ∙ c.if-not-task_in.false) in omega arith
 
-pub largest_e-largest-requires : goal.largest_e-largest-requires
-largest_e-largest-requires c = let b = task_bounds _ _ _ _ (own (goal.at.largest_e-largest-requires c).Else-not-task_in) in omega arith
+pub check_vertices-requires : goal.check_vertices-requires
+check_vertices-requires c =
+    let b = task_bounds _ _ _ _ (sym c.task_in.ensures ∙ c.if-not-task_in.false) in
+    let k = counted (goal.at.check_vertices-requires c).Else-not-task_in in
+    (omega (arith, length-take-le _ c.args.k.now.vertices k.vertices_in), omega (arith, c.requires))
+
+pub returns-in_err-check_vertices : goal.returns-in_err-check_vertices
+returns-in_err-check_vertices c =
+    let k = counted (goal.at.returns-in_err-check_vertices c).Else-not-task_in in
+    passed_on c.from_residual.result c.in_err-check_vertices.field-0.0 c.from_residual.ensures.1
+    ∙ task_broken k c.args.line (rw c.from-4.ensures at c.check_vertices.ensures) c.in_err-check_vertices.was
 
 pub returns-then-not-mask_covered : goal.returns-then-not-mask_covered
-returns-then-not-mask_covered c = task_uncovered (covering (goal.at.returns-then-not-mask_covered c).After-largest_e-largest) (failed c.mask_covered.ensures c.if-not-mask_covered.true) c.broken-then-not-mask_covered.ensures
+returns-then-not-mask_covered c =
+    let k = counted (goal.at.returns-then-not-mask_covered c).Else-not-task_in in
+    let vertices = rw c.from-4.ensures at c.check_vertices.ensures in
+    let largest = rw c.from-4.ensures at c.largest_e-largest.ensures in
+    let covered = rw (c.from-7.ensures, c.from-8.ensures) at c.mask_covered.ensures in
+    task_uncovered k c.args.line vertices c.in_ok-check_vertices.was largest (sym covered ∙ c.if-not-mask_covered.true)
+    (ap Err c.at_line-then-not-mask_covered.ensures ∙ ap (λ (n : ℕ). broken_by OutOfBounds (c.args.line + n)) c.from-6.ensures)
 
 pub check_edges-requires : goal.check_edges-requires
 check_edges-requires c =
-    let b = task_bounds _ _ _ _ (own (goal.at.check_edges-requires c).Else-not-task_in) in
-    (omega arith, omega arith, omega (arith, c.requires))
+    let b = task_bounds _ _ _ _ (sym c.task_in.ensures ∙ c.if-not-task_in.false) in
+    let k = counted (goal.at.check_edges-requires c).Else-not-task_in in (
+      omega (arith, length-take-le _ c.args.k.now.vertices k.vertices_in),
+      omega (arith, length-take-le _ c.args.k.now.edges k.edges_in),
+      omega (arith, c.requires),
+    )
 
 pub returns : goal.returns
-returns c = task_covered (covering (goal.at.returns c).After-largest_e-largest) (held c.mask_covered.ensures c.if-not-mask_covered.false) c.check_edges.ensures
+returns c =
+    let k = counted (goal.at.returns c).Else-not-task_in in
+    let vertices = rw c.from-4.ensures at c.check_vertices.ensures in
+    let largest = rw c.from-4.ensures at c.largest_e-largest.ensures in
+    let covered = rw (c.from-7.ensures, c.from-8.ensures) at c.mask_covered.ensures in
+    task_covered k c.args.line vertices c.in_ok-check_vertices.was largest (sym covered ∙ c.if-not-mask_covered.false)
+    (rw (c.from-4.ensures, c.from-5.ensures, c.from-6.ensures) at c.check_edges.ensures)

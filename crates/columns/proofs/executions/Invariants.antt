@@ -1,4 +1,3 @@
-use Prim.Native.Nat.{◌-◌, ◌≤◌}
 use mathlib.Core.Path.{◌≡◌}
 use mathlib.Core.List.{map}
 use lib.ListN.{take, replicate}
@@ -8,7 +7,4 @@ use Rattle.columns.specs.Columns.{execution_in}
 use Rattle.columns.proofs.executions.Given as goal
 
 abbrev pub invariant-loop-v : goal.invariant-loop-v
-invariant-loop-v l = (l.v ≤ l.n) × (l.e ≡ sets (replicate most_vertices 0) 0 (take l.v (map execution_in l.vertices)))
-
-abbrev pub decreases-loop-v : goal.decreases-loop-v
-decreases-loop-v l = l.n - l.v
+invariant-loop-v l = l.e ≡ sets (replicate most_vertices 0) 0 (take l.v (map execution_in l.vertices))

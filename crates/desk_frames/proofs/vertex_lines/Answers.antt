@@ -1,41 +1,29 @@
 use mathlib.Core.Path.{ap}
-use native.Mathlib.Omega.{arith}
+use Rattle.kinds.specs.declared.Verdict.{Verdict}
 use Rattle.desk_frames.specs.Lines.{place_of, shown_paths}
-use Rattle.desk_frames.proofs.VertexLines.{verdict_asks, VerdictPut, shown-alone, paths_ask, shown-all}
-use borrow.Author.Rules.{rules}
+use Rattle.desk_frames.proofs.VertexLines.{verdict_asks, shown-alone, shown_none, paths_ask, shown-all}
 use Rattle.desk_frames.proofs.vertex_lines.Goals as goal
-use Rattle.desk_frames.proofs.vertex_lines.Goals.{After-verdict_line-next}
 
-put : (c : After-verdict_line-next)
-    → (let s = c.args in
-    VerdictPut (place_of s.task s.vertex) s.verdict s.cells.now s.out.now s.at c.verdict_line-next.new.out c.verdict_line-next.result)
-put c = let asked = c.requires in record { whole = asked.0; room = asked.1; wrote = c.verdict_line-next.ensures }
-
-pub verdict_line-next-requires : goal.verdict_line-next-requires
-verdict_line-next-requires c =
+pub verdict_line-requires : goal.verdict_line-requires
+verdict_line-requires c =
     let s = c.args in
     verdict_asks (place_of s.task s.vertex) s.verdict s.cells.now _ _ c.requires.1
 
 pub path_lines-requires : goal.path_lines-requires
 path_lines-requires c =
-    let verdict = put (goal.at.path_lines-requires c).After-verdict_line-next in
-    let asks = paths_ask verdict c.in-Misses.is (search rules) in
-    (asks.0, asks.1, omega (arith, asks.2, verdict.wrote.end))
-
-pub returns-in-Meets : goal.returns-in-Meets
-returns-in-Meets c =
     let s = c.args in
-    shown-alone (put (goal.at.returns-in-Meets c).After-verdict_line-next) (ap (λ x. shown_paths x s.task.0 s.cells.now) c.in-Meets.is)
+    let shows = ap (λ (x : Verdict). shown_paths x s.task.0 s.cells.now) c.in-Misses.is in (
+      rw c.in-Misses.is at c.requires.0,
+      paths_ask (place_of s.task s.vertex) s.verdict s.cells.now _ c.verdict_line.ensures shows c.requires.1,
+    )
 
 pub returns-in-Misses : goal.returns-in-Misses
-returns-in-Misses c = shown-all (put (goal.at.returns-in-Misses c).After-verdict_line-next) c.in-Misses.is c.path_lines.ensures
-
-pub returns-in-Unfinished : goal.returns-in-Unfinished
-returns-in-Unfinished c =
+returns-in-Misses c =
     let s = c.args in
-    shown-alone (put (goal.at.returns-in-Unfinished c).After-verdict_line-next) (ap (λ x. shown_paths x s.task.0 s.cells.now) c.in-Unfinished.is)
+    let shows = ap (λ (x : Verdict). shown_paths x s.task.0 s.cells.now) c.in-Misses.is in
+    shown-all (place_of s.task s.vertex) s.verdict s.cells.now _ c.verdict_line.ensures shows c.path_lines.ensures
 
-pub returns-in-Refused : goal.returns-in-Refused
-returns-in-Refused c =
+pub returns-in_default : goal.returns-in_default
+returns-in_default c =
     let s = c.args in
-    shown-alone (put (goal.at.returns-in-Refused c).After-verdict_line-next) (ap (λ x. shown_paths x s.task.0 s.cells.now) c.in-Refused.is)
+    shown-alone (place_of s.task s.vertex) s.verdict s.cells.now c.verdict_line.ensures (shown_none s.verdict s.task.0 s.cells.now c.in_default.not-Misses)

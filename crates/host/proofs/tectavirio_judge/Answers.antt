@@ -9,7 +9,7 @@ returns c =
       verdict = c.judge-verdict.result;
       judged =
           wide_judged plain s.text.now s.task s.vertex s.budget c.narrow.ensures c.narrow-2.ensures c.judge-verdict.ensures;
-      number_is = c.verdict_number.ensures;
-      value_is = c.verdict_value.ensures;
-      place_is = c.verdict_place.ensures;
+      number_is = c.number.ensures;
+      value_is = c.value.ensures;
+      place_is = c.place.ensures;
     }

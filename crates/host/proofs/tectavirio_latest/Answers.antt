@@ -13,10 +13,10 @@ returns c =
       late = c.latest-late.result;
       judged =
           wide_latest s.text.now s.task s.vertex s.budget c.narrow.ensures c.narrow-2.ensures c.latest-late.ensures;
-      number_is = c.verdict_number.ensures
-          ∙ ap (λ (r : Verdict). get_or (verdict_numbers r) 0 0) c.verdict_in-said.ensures ∙ verdict_number c.latest-late.result;
-      value_is = c.verdict_value.ensures
-          ∙ ap (λ (r : Verdict). get_or (verdict_numbers r) 1 0) c.verdict_in-said.ensures ∙ verdict_value c.latest-late.result;
-      place_is = c.lateness_place.ensures;
-      finish_is = c.lateness_finish.ensures;
+      number_is = c.number.ensures
+          ∙ ap (λ (r : Verdict). get_or (verdict_numbers r) 0 0) c.from-said.ensures ∙ verdict_number c.latest-late.result;
+      value_is = c.value.ensures
+          ∙ ap (λ (r : Verdict). get_or (verdict_numbers r) 1 0) c.from-said.ensures ∙ verdict_value c.latest-late.result;
+      place_is = c.place.ensures;
+      finish_is = c.from.ensures ∙ c.finish.ensures;
     }

@@ -2,8 +2,8 @@ use native.Mathlib.Omega.{arith}
 use Rattle.host.proofs.Telling.{write_told}
 use Rattle.host.proofs.tectavirio_write.Goals as goal
 
-pub returns-in-Bytes : goal.returns-in-Bytes
-returns-in-Bytes c = write_told c.write_cells-written.ensures c.in-Bytes.is (omega arith)
+pub returns-in-Ok : goal.returns-in-Ok
+returns-in-Ok c = write_told c.in-Ok.ensures (omega arith)
 
-pub returns-in-Refused : goal.returns-in-Refused
-returns-in-Refused c = write_told c.write_cells-written.ensures c.in-Refused.is c.refused_number.ensures
+pub returns-in-Err : goal.returns-in-Err
+returns-in-Err c = write_told c.in-Err.ensures c.refused_number.ensures

@@ -1,18 +1,19 @@
+use mathlib.Core.Path.{refl}
+use Rattle.std.proofs.lemmas.Result.{err_from_is_err_and}
 use Rattle.reader.proofs.Result.{table_read, line_refused}
 use Rattle.judge.proofs.Answers.{read_held, text_uncounted, table_counted}
 use Rattle.judge.proofs.judge_table.Goals as goal
 
-pub count_verdicts-counts-requires : goal.count_verdicts-counts-requires
-count_verdicts-counts-requires c = read_held (table_read c.args.text.now c.read-reading.result c.read-reading.ensures c.in_default.is)
-
-pub returns-in_default : goal.returns-in_default
-returns-in_default c =
-    let counted = c.count_verdicts-counts in
+pub returns-in_err-table : goal.returns-in_err-table
+returns-in_err-table c =
     let s = c.args in
-    let table = table_read s.text.now c.read-reading.result c.read-reading.ensures c.in_default.is in
-    table_counted s.text.now s.budget s.work.now c.read-reading.result.table counted.result _ table counted.ensures
+    let p = err_from_is_err_and c.from_residual.result c.from_residual.ensures.1 in
+    rw (p.1, p.2) (text_uncounted s.text.now s.budget s.work.now _ (line_refused _ _ c.in_err-table.ensures refl))
+
+pub count_verdicts-requires : goal.count_verdicts-requires
+count_verdicts-requires c = read_held (table_read _ _ c.in_ok-table.ensures refl)
 
 pub returns : goal.returns
 returns c =
     let s = c.args in
-    text_uncounted s.text.now s.budget s.work.now c.in-Refused.at (line_refused s.text.now c.read-reading.result c.read-reading.ensures c.in-Refused.is)
+    table_counted s.text.now s.budget s.work.now _ _ _ (table_read _ _ c.in_ok-table.ensures refl) c.count_verdicts.ensures

@@ -4,62 +4,49 @@ use mathlib.Core.Path.{refl, sym, ◌∙◌}
 use borrow.Author.Tests.{leb-true, leb-false}
 use Rattle.reader.proofs.Result.{table_read, line_refused}
 use Rattle.table.proofs.Records.{held_few}
+use Rattle.search.specs.Meant.{asked_by}
 use Rattle.judge.proofs.Answers.{read_held, text_refuses, table_answers}
 use Rattle.judge.proofs.Told.{answer_8, answer_8_vertex, is_there_lem}
-use Rattle.search.specs.Meant.{asked_by}
 use Rattle.judge.proofs.judge_text.Goals as goal
+
+pub returns-in-Err : goal.returns-in-Err
+returns-in-Err c =
+    let s = c.args in
+    text_refuses (asked_by s.late) s.text.now s.at.task.0 s.at.vertex.0 s.budget s.work.now s.witness.now _ (line_refused _ _ c.in-Err.ensures refl) refl
 
 pub returns-then-no_such : goal.returns-then-no_such
 returns-then-no_such c =
-    let table = table_read c.args.text.now c.read-reading.result c.read-reading.ensures c.in_default.is in
+    let s = c.args in
+    let table = table_read _ _ c.in-Ok.ensures refl in
     let h = leb-true _ _ (sym c.no_such.ensures ∙ c.if-no_such.true) in
-    table_answers (asked_by c.args.late) c.args.text.now c.args.task.0
-    c.args.vertex.0 c.args.budget c.args.work.now
-    c.args.witness.now c.read-reading.result.table _ _ _ table
-    (answer_8 (asked_by c.args.late) c.read-reading.result.table (read_held table) c.args.task.0 c.args.vertex.0 c.args.budget
-    c.args.work.now c.args.witness.now h c.no_such_vertex.ensures)
+    table_answers (asked_by s.late) s.text.now s.at.task.0 s.at.vertex.0 s.budget s.work.now s.witness.now _ _ _ _ table
+    (answer_8 (asked_by s.late) _ (read_held table) s.at.task.0 s.at.vertex.0 s.budget s.work.now s.witness.now h c.no_such_vertex.ensures)
 
-pub bounds-table-h : goal.bounds-table-h
-bounds-table-h c =
-    let table = table_read c.args.text.now c.read-reading.result c.read-reading.ensures c.in_default.is in
-    let l : c.args.task.0 < c.read-reading.result.table.n =
-    leb-false c.read-reading.result.table.n c.args.task.0 (sym c.no_such.ensures ∙ c.if-no_such.false) in
-    omega (arith, held_few c.read-reading.result.table (read_held table))
+pub bounds-table-at : goal.bounds-table-at
+bounds-table-at c =
+    let table = read_held (table_read _ _ c.in-Ok.ensures refl) in
+    let l : c.args.at.task.0 < c.in-Ok.table.n = leb-false _ _ (sym c.no_such.ensures ∙ c.if-no_such.false) in
+    omega (arith, held_few _ table)
 
 pub returns-then-no_such-2 : goal.returns-then-no_such-2
 returns-then-no_such-2 c =
-    let table = table_read c.args.text.now c.read-reading.result c.read-reading.ensures c.in_default.is in
-    let l : c.args.task.0 < c.read-reading.result.table.n =
-    leb-false c.read-reading.result.table.n c.args.task.0 (sym c.no_such.ensures ∙ c.if-no_such.false) in
-    let h = leb-true _ _ (sym c.no_such-in_default.ensures ∙ c.if-no_such-2.true) in
-    table_answers (asked_by c.args.late) c.args.text.now c.args.task.0
-    c.args.vertex.0 c.args.budget c.args.work.now
-    c.args.witness.now c.read-reading.result.table _ _ _ table
-    (answer_8_vertex (asked_by c.args.late) c.read-reading.result.table
-    (read_held table) c.args.task.0 c.args.vertex.0 c.args.budget
-    c.args.work.now c.args.witness.now l h c.no_such_vertex-then-no_such-2.ensures)
+    let s = c.args in
+    let table = table_read _ _ c.in-Ok.ensures refl in
+    let l = leb-false _ _ (sym c.no_such.ensures ∙ c.if-no_such.false) in
+    let h = leb-true _ _ (sym c.no_such-2.ensures ∙ c.if-no_such-2.true) in
+    table_answers (asked_by s.late) s.text.now s.at.task.0 s.at.vertex.0 s.budget s.work.now s.witness.now _ _ _ _ table
+    (answer_8_vertex (asked_by s.late) _ (read_held table) s.at.task.0 s.at.vertex.0 s.budget s.work.now s.witness.now l h c.no_such_vertex-then-no_such-2.ensures)
 
 pub judge_vertex-requires : goal.judge_vertex-requires
 judge_vertex-requires c =
-    let table = table_read c.args.text.now c.read-reading.result c.read-reading.ensures c.in_default.is in
-    let l : c.args.task.0 < c.read-reading.result.table.n =
-    leb-false c.read-reading.result.table.n c.args.task.0 (sym c.no_such.ensures ∙ c.if-no_such.false) in
-    let m = leb-false _ _ (sym c.no_such-in_default.ensures ∙ c.if-no_such-2.false) in (
-      read_held table,
-      is_there_lem (asked_by c.args.late) c.read-reading.result.table (read_held table) c.args.task.0 c.args.vertex.0
-          c.args.budget c.args.work.now c.args.witness.now l m,
-    )
-
-pub returns-in_default : goal.returns-in_default
-returns-in_default c =
-    let table = table_read c.args.text.now c.read-reading.result c.read-reading.ensures c.in_default.is in
-    table_answers (asked_by c.args.late) c.args.text.now c.args.task.0
-    c.args.vertex.0 c.args.budget c.args.work.now
-    c.args.witness.now c.read-reading.result.table c.judge_vertex.result _ _ table c.judge_vertex.ensures
+    let s = c.args in
+    let table = read_held (table_read _ _ c.in-Ok.ensures refl) in
+    let l = leb-false _ _ (sym c.no_such.ensures ∙ c.if-no_such.false) in
+    let m = leb-false _ _ (sym c.no_such-2.ensures ∙ c.if-no_such-2.false) in
+    (table, is_there_lem (asked_by s.late) _ table s.at.task.0 s.at.vertex.0 s.budget s.work.now s.witness.now l m)
 
 pub returns : goal.returns
 returns c =
-    let line = line_refused c.args.text.now c.read-reading.result c.read-reading.ensures c.in-Refused.is in
-    text_refuses (asked_by c.args.late) c.args.text.now c.args.task.0
-    c.args.vertex.0 c.args.budget c.args.work.now
-    c.args.witness.now c.in-Refused.at line refl
+    let s = c.args in
+    table_answers (asked_by s.late) s.text.now s.at.task.0 s.at.vertex.0 s.budget s.work.now s.witness.now _ _ _ _
+    (table_read _ _ c.in-Ok.ensures refl) c.judge_vertex.ensures

@@ -1,9 +1,5 @@
 use Rattle.lines.proofs.Turns.{EdgeTurn}
-use Prim.Native.Nat.{◌-◌}
 use Rattle.lines.proofs.read_edges.Given as goal
 
 abbrev pub invariant-loop-i : goal.invariant-loop-i
-invariant-loop-i l = EdgeTurn l.n l.vertices l.text l.from l.m l.edges l.least l.at l.i
-
-abbrev pub decreases-loop-i : goal.decreases-loop-i
-decreases-loop-i l = l.m - l.i
+invariant-loop-i l = EdgeTurn l.n l.vertices l.text l.from l.m l.edges l.least l.i

@@ -1,9 +1,5 @@
 use Rattle.lines.proofs.Turns.{VertexTurn}
-use Prim.Native.Nat.{◌-◌}
 use Rattle.lines.proofs.read_vertices.Given as goal
 
 abbrev pub invariant-loop-i : goal.invariant-loop-i
-invariant-loop-i l = VertexTurn l.text l.from l.n l.vertices l.at l.i
-
-abbrev pub decreases-loop-i : goal.decreases-loop-i
-decreases-loop-i l = l.n - l.i
+invariant-loop-i l = VertexTurn l.text l.from l.n l.vertices l.i

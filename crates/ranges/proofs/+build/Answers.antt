@@ -15,22 +15,20 @@ lie : (t : ℕ) (c : After-half-c t) → Parts c.args.d c.args.len c.half-c.resu
 lie t c = parts c.args.d c.args.len c.half-c.result c.args.part.now c.if-len-eq1.false c.requires.0 c.half-c.ensures c.requires.3
 
 -- the first part is built, and the stretch is as long as before
-one-built : (t : ℕ) (c : After-build t) → length (first_built c.args.d c.half-c.result c.args.part.now c.build.new.part) ≡ length c.args.part.now
-one-built t c =
-    let l = parts c.args.d c.args.len c.half-c.result c.args.part.now c.if-len-eq1.false c.requires.0 c.half-c.ensures c.requires.3 in
+one-built : (t : ℕ) (c : After-build t) → Parts c.args.d c.args.len c.half-c.result c.args.part.now → length (first_built c.args.d c.half-c.result c.args.part.now c.build.new.part) ≡ length c.args.part.now
+one-built t c l =
     first_back l c.build.new.part c.build.ensures
 
 -- both parts are
-two-built : (t : ℕ) (c : After-build-2 t)
+two-built : (t : ℕ) (c : After-build-2 t) → Parts c.args.d c.args.len c.half-c.result c.args.part.now
     → length (both_built c.args.d c.half-c.result c.args.part.now c.build.new.part c.build-2.new.part) ≡ length c.args.part.now
-two-built t c =
-    let l = parts c.args.d c.args.len c.half-c.result c.args.part.now c.if-len-eq1.false c.requires.0 c.half-c.ensures c.requires.3 in
+two-built t c l =
     both_back l c.build.new.part c.build.ensures c.build-2.new.part c.build-2.ensures
 
 -- the row between the parts is the larger of theirs
-whole : (t : ℕ) (c : After-larger_row t) → c.larger_row.new.part ≡ built c.args.d c.args.len c.args.part.now
-whole t c =
-    let l = parts c.args.d c.args.len c.half-c.result c.args.part.now c.if-len-eq1.false c.requires.0 c.half-c.ensures c.requires.3 in
+whole : (t : ℕ) (c : After-larger_row t) → Parts c.args.d c.args.len c.half-c.result c.args.part.now
+    → c.larger_row.new.part ≡ built c.args.d c.args.len c.args.part.now
+whole t c l =
     build_joined l c.build.new.part c.build.ensures c.build-2.new.part c.build-2.ensures c.larger_row.new.part
     c.top_row.result c.top_row-2.result c.top_row.ensures c.top_row-2.ensures c.larger_row.ensures
 
@@ -74,25 +72,25 @@ build-requires t c =
 pub offset_bounds-part-m : goal.offset_bounds-part-m
 offset_bounds-part-m t c =
     let g = lie t (goal.at.offset_bounds-part-m t c).After-half-c in
-    let f = one-built t (goal.at.offset_bounds-part-m t c).After-build in
+    let f = one-built t (goal.at.offset_bounds-part-m t c).After-build g in
     omega arith
 
 pub slice_bounds-build-count : goal.slice_bounds-build-count
 slice_bounds-build-count t c =
     let g = lie t (goal.at.slice_bounds-build-count t c).After-half-c in
-    let f = one-built t (goal.at.slice_bounds-build-count t c).After-build in
+    let f = one-built t (goal.at.slice_bounds-build-count t c).After-build g in
     omega arith
 
 pub slice_bounds-build-start : goal.slice_bounds-build-start
 slice_bounds-build-start t c =
     let g = lie t (goal.at.slice_bounds-build-start t c).After-half-c in
-    let f = one-built t (goal.at.slice_bounds-build-start t c).After-build in
+    let f = one-built t (goal.at.slice_bounds-build-start t c).After-build g in
     omega arith
 
 pub slice_bounds-build-end-3 : goal.slice_bounds-build-end-3
 slice_bounds-build-end-3 t c =
     let g = lie t (goal.at.slice_bounds-build-end-3 t c).After-half-c in
-    let f = one-built t (goal.at.slice_bounds-build-end-3 t c).After-build in
+    let f = one-built t (goal.at.slice_bounds-build-end-3 t c).After-build g in
     omega arith
 
 pub overflow_sub-len : goal.overflow_sub-len
@@ -133,12 +131,12 @@ larger_row-requires t c =
     let g = lie t (goal.at.larger_row-requires t c).After-half-c in
     let z = ap (λ n. n * c.args.d) c.top_row-2.ensures in
     let y = ap (λ n. n * c.args.d) c.top_row.ensures in
-    let l = two-built t (goal.at.larger_row-requires t c).After-build-2 in
+    let l = two-built t (goal.at.larger_row-requires t c).After-build-2 g in
     (omega arith, omega arith, omega arith)
 
 pub shape_of-part : goal.shape_of-part
 shape_of-part t c =
-    built-length c.args.d c.args.len c.args.part.now _ c.requires.0 (whole t (goal.at.shape_of-part t c).After-larger_row) ∙ sym c.requires.3
+    built-length c.args.d c.args.len c.args.part.now _ c.requires.0 (whole t (goal.at.shape_of-part t c).After-larger_row (lie t (goal.at.shape_of-part t c).After-half-c)) ∙ sym c.requires.3
 
 pub returns : goal.returns
-returns t c = whole t (goal.at.returns t c).After-larger_row
+returns t c = whole t (goal.at.returns t c).After-larger_row (lie t (goal.at.returns t c).After-half-c)

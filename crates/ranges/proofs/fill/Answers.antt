@@ -13,6 +13,5 @@ path_rows-requires c =
 
 pub returns : goal.returns
 returns c =
-    stretch_is (task_of c.args.t) c.args.d.0 c.args.paths c.args.part.now
-    c.path_rows.new.part c.build.new.part c.requires.d_nonzero.4 (omega arith)
-    c.path_rows.ensures c.build.ensures
+    stretch_is (task_of c.args.t.now) c.args.d.0 c.args.paths c.args.part.now c.path_rows.new.part c.build.new.part c.requires.d_nonzero.4 (omega arith)
+    c.path_rows.ensures (rw c.from.ensures at c.build.ensures)

@@ -1,28 +1,18 @@
-use mathlib.Core.Path.{refl, ap, ◌∙◌}
+use mathlib.Core.Path.{ap, ◌∙◌}
 use native.Mathlib.Omega.{arith}
-use lib.ListN.{length-set}
 use lib.Seq.{sets, take_all}
 use Rattle.ranges.proofs.LargerCells.{larger_more, pair_length, pair_larger}
 use Rattle.ranges.proofs.larger_row.Goals as goal
 
-pub loop-t-init : goal.loop-t-init
-loop-t-init c = (omega arith, refl, refl)
-
 pub loop-t-preserved : goal.loop-t-preserved
 loop-t-preserved c =
+    let s = c.args in
     let l = c.loop-t in
-    let more = larger_more c.args.part.now c.args.o c.args.a c.args.b c.args.d c.requires.0 c.requires.1 c.requires.2 in (
-      omega arith,
-      more l.part l.t c.larger.result c.loop-t-test.true l.invariant.1 c.larger.ensures,
-      length-set l.part _ _ ∙ l.invariant.2,
-    )
-
-pub shape_of-part : goal.shape_of-part
-shape_of-part c = c.loop-t.invariant.2
+    larger_more s.part.now s.o s.a s.b s.d c.requires.0 c.requires.1 c.requires.2 l.part l.t c.max.result c.loop-t-test.true l.invariant c.max.ensures
 
 pub returns : goal.returns
 returns c =
-    let l = c.loop-t in
-    let row = pair_larger c.args.part.now c.args.a c.args.b c.args.d in
-    let size = pair_length c.args.part.now c.args.o c.args.a c.args.b c.args.d c.requires.0 c.requires.1 c.requires.2 in
-    l.invariant.1 ∙ ap (sets c.args.part.now c.args.o) (take_all l.t row (omega (arith, size)))
+    let s = c.args in
+    let row = pair_larger s.part.now s.a s.b s.d in
+    let size = pair_length s.part.now s.o s.a s.b s.d c.requires.0 c.requires.1 c.requires.2 in
+    c.loop-t.invariant ∙ ap (sets s.part.now s.o) (take_all c.loop-t.t row (omega (arith, size)))

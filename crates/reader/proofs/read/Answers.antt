@@ -1,112 +1,102 @@
-use Rattle.reader.proofs.Turn.{turn_first, FrameTurn, frame_ends, TaskFacts, task_facts, TaskTurn, lines_few, kept, emptied}
-use Rattle.reader.proofs.Turn.{task_stops, task_more}
+use Rattle.reader.proofs.Turn.{turn_first, FrameTurn, frame_refused, end_behind, end_last, TaskFacts, task_facts, TaskTurn, lines_few, stop_few, task_stops, task_more}
 use Rattle.reader.proofs.Result.{reading_reads}
+use Rattle.std.specs.Prelude.{Result, Ok, Err}
+use Rattle.table.specs.declared.Task.{Task}
+use Rattle.lines.specs.declared.Stopped.{Stopped}
+use Rattle.lines.specs.declared.TaskLines.{TaskLines}
+use Rattle.lines.specs.Parts.{TaskTaken, taken_with}
 use Prim.Native.Nat.{◌+◌}
-use mathlib.Core.Path.{◌≡◌, sym, ap, ◌∙◌}
-use Rattle.meaning.specs.Text.{read}
-use Rattle.reader.specs.declared.Status.{Status}
-use Rattle.reader.specs.Inner.{reading_with}
-use Rattle.reader.proofs.Descent.{reading_record}
+use mathlib.Core.Path.{◌≡◌, refl, sym, ap, ◌∙◌}
 use native.Mathlib.Omega.{arith}
 use Rattle.reader.proofs.read.Goals as goal
-use Rattle.reader.proofs.read.Goals.{in_default, in-TaskTaken+in-StoppedBy, After-read_task-taken, After-task_or_end_line-next, In-TaskTaken, Joined-next}
+use Rattle.reader.proofs.read.Goals.{After-task_or_end_line, In-Ok-Some, After-read_task}
 
 -- ---- the places on the way: a line is tested, it is a task's, the task's lines are read
 
-frame : (c : After-task_or_end_line-next) →
-    FrameTurn c.args.text.now c.loop-head.table c.loop-head.at c.loop-head.line c.task_or_end_line-next.result
-frame c = record { turn = c.loop-head.invariant; gives = c.task_or_end_line-next.ensures }
+frame : (c : After-task_or_end_line) →
+    FrameTurn c.args.text.now c.loop-head.table c.loop-head.at c.loop-head.line c.task_or_end_line.result
+frame c = record { turn = c.loop-head.invariant; gives = c.task_or_end_line.ensures }
 
-facts : (c : In-TaskTaken) →
-    TaskFacts c.args.text.now c.loop-head.table c.loop-head.at c.loop-head.line c.in-TaskTaken.head
-facts c = task_facts (record { turn = c.loop-head.invariant; gives = c.task_or_end_line-next.ensures }) c.in-TaskTaken.is
+facts : (c : In-Ok-Some) → TaskFacts c.args.text.now c.loop-head.table c.loop-head.at c.loop-head.line c.in-Ok-Some.head
+facts c = task_facts (record { turn = c.loop-head.invariant; gives = c.task_or_end_line.ensures }) (c.in-Ok-Some.is ∙ ap Ok c.in-Ok-Some.field-0-is)
 
-lines : (c : After-read_task-taken) →
-    let text = c.args.text.now in
-    TaskTurn text c.loop-head.table c.loop-head.at c.loop-head.line c.in-TaskTaken.head (c.loop-head.at + c.head_bytes.result) c.read_task-taken.result
+-- an answer with the task that was filled beside it
+with_task : (k : Task) {r b : Result TaskLines Stopped} → r ≡ b → taken_with r k ≡ taken_with b k
+with_task k q = ap (λ r. taken_with r k) q
+
+abbrev taken : (c : After-read_task) → Result TaskTaken Stopped
+taken c = taken_with c.read_task.result c.read_task.new.task
+
+lines : (c : After-read_task) →
+    let l = c.loop-head in
+    TaskTurn c.args.text.now l.table l.at l.line c.in-Ok-Some.head (l.at + c.bytes.result) (taken c)
 lines c =
     record {
-      frame = record { turn = c.loop-head.invariant; gives = sym c.in-TaskTaken.is ∙ c.task_or_end_line-next.ensures };
-      place = ap (λ n. c.loop-head.at + n) c.head_bytes.ensures;
-      gives = c.read_task-taken.ensures;
+      frame = record { turn = c.loop-head.invariant; gives = sym (c.in-Ok-Some.is ∙ ap Ok c.in-Ok-Some.field-0-is) ∙ c.task_or_end_line.ensures };
+      place = ap (λ n. c.loop-head.at + n) c.bytes.ensures;
+      gives = c.read_task.ensures;
     }
-
--- where the loop is left, the reading is known: no task's frame stands there, or a line of the task is refused
-closed : (c : Joined-next) →
-    reading_with c.match-next.status c.loop-head.table ≡ reading_record (read c.args.text.now)
-closed c =
-    let table = c.loop-head.table in
-    let here : FrameTurn c.args.text.now table c.loop-head.at c.loop-head.line c.task_or_end_line-next.result =
-    record { turn = c.loop-head.invariant; gives = c.task_or_end_line-next.ensures } in
-    elim c.match-next.branch [
-      | in_default w ↦ ap (λ (x : Status). reading_with x table) (w.status-is ∙ w.ended-status.ensures) ∙ frame_ends here w.in_default.not-TaskTaken
-      | in-TaskTaken+in-StoppedBy w ↦
-          let taken : TaskTurn c.args.text.now table c.loop-head.at c.loop-head.line w.in-TaskTaken.head (c.loop-head.at + w.head_bytes.result) w.read_task-taken.result =
-          record {
-            frame = record { turn = c.loop-head.invariant; gives = sym w.in-TaskTaken.is ∙ c.task_or_end_line-next.ensures };
-            place = ap (λ n. c.loop-head.at + n) w.head_bytes.ensures;
-            gives = w.read_task-taken.ensures;
-          } in
-          ap (λ (x : Status). reading_with x table) (w.status-is ∙ w.refused-status.ensures) ∙ task_stops taken w.in-StoppedBy.is (omega arith)
-    ]
 
 pub loop-head-init : goal.loop-head-init
 loop-head-init c = turn_first c.args.text.now c.no_table-table.result c.no_table-table.ensures
 
-pub task_or_end_line-next-requires : goal.task_or_end_line-next-requires
-task_or_end_line-next-requires c = c.worths-worths.ensures
-
-pub ended-status-requires : goal.ended-status-requires
-ended-status-requires c = let t = c.loop-head.invariant in omega (arith, t.early, t.few)
+pub returns-in-Err : goal.returns-in-Err
+returns-in-Err c =
+    reading_reads _ _ (ap Err c.refused_at.ensures ∙ frame_refused (frame (goal.at.returns-in-Err c).After-task_or_end_line) c.in-Err.is)
 
 pub overflow_add-from : goal.overflow_add-from
-overflow_add-from c = let f = facts (goal.at.overflow_add-from c).In-TaskTaken in omega (arith, c.head_bytes.ensures)
+overflow_add-from c = let f = facts (goal.at.overflow_add-from c).In-Ok-Some in omega (arith, c.bytes.ensures)
 
-pub read_task-taken-requires : goal.read_task-taken-requires
-read_task-taken-requires c =
-    let f = facts (goal.at.read_task-taken-requires c).In-TaskTaken in
-    (omega (arith, c.head_bytes.ensures), omega arith, omega arith, omega arith, c.worths-worths.ensures)
+pub read_task-requires : goal.read_task-requires
+read_task-requires c =
+    let f = facts (goal.at.read_task-requires c).In-Ok-Some in
+    (omega (arith, c.bytes.ensures), omega arith, omega arith, omega arith)
 
-pub overflow_add-line : goal.overflow_add-line
-overflow_add-line c = let f = facts (goal.at.overflow_add-line c).In-TaskTaken in omega arith
+pub overflow_add-line-in-Err-read_task : goal.overflow_add-line-in-Err-read_task
+overflow_add-line-in-Err-read_task c =
+    let f = facts (goal.at.overflow_add-line-in-Err-read_task c).In-Ok-Some in
+    omega (arith, stop_few (lines (goal.at.overflow_add-line-in-Err-read_task c).After-read_task) (with_task c.read_task.new.task c.in-Err-read_task.is))
 
-pub overflow_add-line-in-StoppedBy : goal.overflow_add-line-in-StoppedBy
-overflow_add-line-in-StoppedBy c =
-    let f = facts (goal.at.overflow_add-line-in-StoppedBy c).In-TaskTaken in
-    omega (arith, lines_few (lines (goal.at.overflow_add-line-in-StoppedBy c).After-read_task-taken))
+pub refused_at-requires-in-Err-read_task : goal.refused_at-requires-in-Err-read_task
+refused_at-requires-in-Err-read_task c =
+    let f = facts (goal.at.refused_at-requires-in-Err-read_task c).In-Ok-Some in
+    omega (arith, stop_few (lines (goal.at.refused_at-requires-in-Err-read_task c).After-read_task) (with_task c.read_task.new.task c.in-Err-read_task.is))
 
-pub refused-status-requires : goal.refused-status-requires
-refused-status-requires c =
-    let f = facts (goal.at.refused-status-requires c).In-TaskTaken in
-    omega (arith, lines_few (lines (goal.at.refused-status-requires c).After-read_task-taken))
+pub returns-in-Err-read_task : goal.returns-in-Err-read_task
+returns-in-Err-read_task c =
+    let stops = task_stops (lines (goal.at.returns-in-Err-read_task c).After-read_task) (with_task c.read_task.new.task c.in-Err-read_task.is) in
+    reading_reads _ _ (ap Err c.refused_at-in-Err-read_task.ensures ∙ stops)
 
-pub bounds-table-k : goal.bounds-table-k
-bounds-table-k c = let f = facts (goal.at.bounds-table-k c).In-TaskTaken in omega arith
-
-pub overflow_add-table : goal.overflow_add-table
-overflow_add-table c = let f = facts (goal.at.overflow_add-table c).In-TaskTaken in omega arith
+pub bounds-table-table : goal.bounds-table-table
+bounds-table-table c = let f = facts (goal.at.bounds-table-table c).In-Ok-Some in omega arith
 
 pub overflow_add-line-in-loop-head : goal.overflow_add-line-in-loop-head
-overflow_add-line-in-loop-head c = let f = facts (goal.at.overflow_add-line-in-loop-head c).In-TaskTaken in omega arith
+overflow_add-line-in-loop-head c =
+    omega (arith, lines_few (lines (goal.at.overflow_add-line-in-loop-head c).After-read_task) (with_task c.read_task.new.task c.in-Ok.is))
 
 pub overflow_add-line-in-loop-head-2 : goal.overflow_add-line-in-loop-head-2
 overflow_add-line-in-loop-head-2 c =
-    let f = facts (goal.at.overflow_add-line-in-loop-head-2 c).In-TaskTaken in
-    omega (arith, lines_few (lines (goal.at.overflow_add-line-in-loop-head-2 c).After-read_task-taken))
+    let f = facts (goal.at.overflow_add-line-in-loop-head-2 c).In-Ok-Some in
+    omega (arith, lines_few (lines (goal.at.overflow_add-line-in-loop-head-2 c).After-read_task) (with_task c.read_task.new.task c.in-Ok.is))
 
 pub overflow_add-at : goal.overflow_add-at
 overflow_add-at c =
-    let g = task_more (lines (goal.at.overflow_add-at c).After-read_task-taken) c.in_default-outcome.is in
+    let g = task_more (lines (goal.at.overflow_add-at c).After-read_task) (with_task c.read_task.new.task c.in-Ok.is) refl in
     omega (arith, g.inside, c.well_formed)
 
 pub loop-head-smaller : goal.loop-head-smaller
-loop-head-smaller c = let f = facts (goal.at.loop-head-smaller c).In-TaskTaken in omega arith
+loop-head-smaller c = let f = facts (goal.at.loop-head-smaller c).In-Ok-Some in omega arith
 
 pub loop-head-preserved : goal.loop-head-preserved
-loop-head-preserved c = task_more (lines (goal.at.loop-head-preserved c).After-read_task-taken) c.in_default-outcome.is
+loop-head-preserved c = task_more (lines (goal.at.loop-head-preserved c).After-read_task) (with_task c.read_task.new.task c.in-Ok.is) (omega arith)
 
-pub returns-then-is_refused : goal.returns-then-is_refused
-returns-then-is_refused c = reading_reads _ _ (emptied _ _ (closed (goal.at.returns-then-is_refused c).Joined-next) (sym c.is_refused.ensures ∙ c.if-is_refused.true) c.no_table-table-then-is_refused.ensures)
+pub returns-then-text-at-ne-END_BYTES : goal.returns-then-text-at-ne-END_BYTES
+returns-then-text-at-ne-END_BYTES c =
+    let here = frame (goal.at.returns-then-text-at-ne-END_BYTES c).After-task_or_end_line in
+    let more = end_behind here (c.in-Ok-None.is ∙ ap Ok c.in-Ok-None.field-0-is) c.if-text-at-ne-END_BYTES.true in
+    reading_reads _ _ (ap Err c.refused_at-then-text-at-ne-END_BYTES.ensures ∙ more)
 
-pub returns-else-is_refused : goal.returns-else-is_refused
-returns-else-is_refused c = reading_reads _ _ (kept _ _ (closed (goal.at.returns-else-is_refused c).Joined-next) (sym c.is_refused.ensures ∙ c.if-is_refused.false))
+pub returns : goal.returns
+returns c =
+    let here = frame (goal.at.returns c).After-task_or_end_line in
+    reading_reads _ _ (end_last here (c.in-Ok-None.is ∙ ap Ok c.in-Ok-None.field-0-is) c.if-text-at-ne-END_BYTES.false)

@@ -1,12 +1,9 @@
 use native.Mathlib.Omega.{arith}
-use Rattle.table.proofs.Largest.{largest-none, largest_more, largest-all}
+use Rattle.table.proofs.Largest.{of_none, of_more}
 use Rattle.table.proofs.largest_e.Goals as goal
 
-pub loop-i-init : goal.loop-i-init
-loop-i-init c = largest-none _ _
+pub loop-x-init : goal.loop-x-init
+loop-x-init c = of_none _
 
-pub loop-i-preserved : goal.loop-i-preserved
-loop-i-preserved c = largest_more c.loop-i.invariant (omega (arith, c.loop-i-test.true)) c.longer-largest.ensures
-
-pub returns : goal.returns
-returns c = largest-all c.loop-i.invariant c.loop-i-test.false
+pub loop-x-preserved : goal.loop-x-preserved
+loop-x-preserved c = omega (arith, c.loop-x.invariant, c.longer-largest.ensures, of_more c.args.vertices.now c.loop-x.x-index)

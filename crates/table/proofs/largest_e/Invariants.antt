@@ -1,9 +1,6 @@
-use Prim.Native.Nat.{◌-◌}
-use Rattle.table.proofs.Largest.{LargestTo}
+use Rattle.std.proofs.Common.{◌≡◌}
+use Rattle.table.specs.Inner.{largest_of}
 use Rattle.table.proofs.largest_e.Given as goal
 
-abbrev pub invariant-loop-i : goal.invariant-loop-i
-invariant-loop-i l = LargestTo l.vertices l.n l.largest l.i
-
-abbrev pub decreases-loop-i : goal.decreases-loop-i
-decreases-loop-i l = l.n - l.i
+abbrev pub invariant-loop-x : goal.invariant-loop-x
+invariant-loop-x l = l.largest.0 ≡ largest_of l.x-index l.vertices

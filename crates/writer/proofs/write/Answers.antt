@@ -1,21 +1,23 @@
+use mathlib.Core.Path.{sym, subst}
 use native.Mathlib.Omega.{arith}
+use Rattle.checks.proofs.InOrder.{passed_on}
+use Rattle.writer.specs.Written.{Written, Writes}
 use Rattle.writer.proofs.Answers.{answer_broken, answer_sound, answer-bytes, answer_few, answer_short, answer-written}
 use Rattle.writer.proofs.write.Goals as goal
 
-pub returns-in-Broken : goal.returns-in-Broken
-returns-in-Broken c = answer_broken c.check_table-checked.ensures _ c.in-Broken.is
+pub returns-in_err-need : goal.returns-in_err-need
+returns-in_err-need c =
+    let is = passed_on c.from_residual.result c.in_err-need.field-0.0 c.from_residual.ensures.1 in
+    subst (λ (r : Written). Writes c.args.t.now c.args.out.now r c.args.out.now) (sym is) (answer_broken _ c.in_err-need.ensures)
 
 pub overflow_cast-place : goal.overflow_cast-place
-overflow_cast-place c = omega (arith, answer_few c.check_table-checked.ensures c.in_default.is)
+overflow_cast-place c = omega (arith, answer_few c.in_ok-need.ensures)
 
 pub returns-then-out-need : goal.returns-then-out-need
-returns-then-out-need c = answer_short c.check_table-checked.ensures c.in_default.is _ c.if-out-need.true
+returns-then-out-need c = answer_short c.in_ok-need.ensures _ c.if-out-need.true
 
 pub put_table-end-requires : goal.put_table-end-requires
-put_table-end-requires c =
-    let found = c.check_table-checked.ensures in
-    let kept = c.in_default.is in
-    (answer_sound found kept, omega (arith, (answer-bytes found kept).0, c.if-out-need.false))
+put_table-end-requires c = (answer_sound c.in_ok-need.ensures, omega (arith, (answer-bytes c.in_ok-need.ensures).0, c.if-out-need.false))
 
 pub returns : goal.returns
-returns c = answer-written c.check_table-checked.ensures c.in_default.is c.if-out-need.false c.put_table-end.ensures
+returns c = answer-written c.in_ok-need.ensures c.if-out-need.false c.put_table-end.ensures

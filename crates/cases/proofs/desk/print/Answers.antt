@@ -3,8 +3,8 @@ use lib.Seq.{length-take-le}
 use Rattle.judge.proofs.Output.{output-within}
 use Rattle.cases.proofs.desk.print.Goals as goal
 
-pub slice_bounds-write_all-end : goal.slice_bounds-write_all-end
-slice_bounds-write_all-end c = output-within _ c.desk_output-end.ensures
-
 pub slice_bounds-write_all-end-2 : goal.slice_bounds-write_all-end-2
-slice_bounds-write_all-end-2 c = sym (length-take-le _ _ (output-within _ c.desk_output-end.ensures))
+slice_bounds-write_all-end-2 c = output-within _ c.desk_output-end.ensures
+
+pub slice_bounds-write_all-end-3 : goal.slice_bounds-write_all-end-3
+slice_bounds-write_all-end-3 c = sym (length-take-le _ _ (output-within _ c.desk_output-end.ensures))

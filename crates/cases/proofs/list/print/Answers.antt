@@ -1,9 +1,7 @@
+use mathlib.Core.Path.{refl}
 use Rattle.reader.proofs.Result.{table_read}
+use Rattle.judge.proofs.Answers.{read_held}
 use Rattle.cases.proofs.list.print.Goals as goal
 
 pub list_table-requires : goal.list_table-requires
-list_table-requires c =
-    let text = c.args.text.now in
-    let r = table_read text
-    c.read-reading.result c.read-reading.ensures c.in_default.is in
-    (record { whole = r.is; sound = r.sound }, c.requires)
+list_table-requires c = read_held (table_read _ _ c.in-Ok.ensures refl)

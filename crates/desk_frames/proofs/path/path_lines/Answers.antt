@@ -1,51 +1,31 @@
-use borrow.Author.Rules.{rules}
 use native.Mathlib.Omega.{arith}
-use Rattle.desk_frames.proofs.PathLines.{pathing_none, inside, ahead, path_asks, pathing_more, pathing_all}
+use Prim.Native.Nat.{◌-◌}
+use lib.ListN.{length, take, drop, length-drop}
+use lib.Seq.{take_all}
+use Rattle.desk_frames.proofs.PathLines.{pathing_none, inside, path_asks, pathing_more, pathing_all}
 use Rattle.desk_frames.proofs.path.path_lines.Goals as goal
 
-pub loop-i-init : goal.loop-i-init
-loop-i-init c = let asked = c.requires in pathing_none _ _ _ _ asked.0 asked.1 asked.2
+pub loop-task-init : goal.loop-task-init
+loop-task-init c = pathing_none _ _ _ c.requires.0 c.requires.1
 
-pub overflow_add-from : goal.overflow_add-from
-overflow_add-from c = omega (arith, inside c.loop-i.invariant (search rules))
+pub bounds-rest-0 : goal.bounds-rest-0
+bounds-rest-0 c = inside c.loop-task.invariant c.loop-task-test.true
 
-pub offset_bounds-cells-k : goal.offset_bounds-cells-k
-offset_bounds-cells-k c = omega (arith, inside c.loop-i.invariant (search rules))
+pub path_line-requires : goal.path_line-requires
+path_line-requires c =
+    let rest = c.loop-task.rest.now in
+    let tail = take_all (length rest - 1) (drop 1 rest) (omega (arith, length-drop 1 rest)) in
+    path_asks c.loop-task.invariant c.loop-task-test.true c.from-n.result c.from-n.ensures _ tail
 
-pub bounds-cells-k : goal.bounds-cells-k
-bounds-cells-k c = omega (arith, inside c.loop-i.invariant (search rules))
-
-pub overflow_add-to : goal.overflow_add-to
-overflow_add-to c = omega (arith, (ahead c.loop-i.invariant (search rules) c.wide.result c.wide.ensures).long)
-
-pub offset_bounds-cells-from : goal.offset_bounds-cells-from
-offset_bounds-cells-from c = omega (arith, inside c.loop-i.invariant (search rules))
-
-pub slice_bounds-path_line-count : goal.slice_bounds-path_line-count
-slice_bounds-path_line-count c = omega (arith, inside c.loop-i.invariant (search rules))
-
-pub slice_bounds-path_line-start : goal.slice_bounds-path_line-start
-slice_bounds-path_line-start c = omega (arith, inside c.loop-i.invariant (search rules))
-
-pub slice_bounds-path_line-end : goal.slice_bounds-path_line-end
-slice_bounds-path_line-end c =
-    let read = c.wide in
-    let next = ahead c.loop-i.invariant (search rules) read.result read.ensures in
-    omega (arith, next.long)
-
-pub path_line-next-requires : goal.path_line-next-requires
-path_line-next-requires c =
-    let read = c.wide in
-    path_asks c.loop-i.invariant (search rules) read.result read.ensures
-
-pub loop-i-preserved : goal.loop-i-preserved
-loop-i-preserved c =
-    let put = c.path_line-next in
-    let read = c.wide in
-    pathing_more c.loop-i.invariant (search rules) read.result read.ensures put.ensures
-
-pub shape_of-out : goal.shape_of-out
-shape_of-out c = c.loop-i.invariant.same
+pub loop-task-preserved : goal.loop-task-preserved
+loop-task-preserved c =
+    let rest = c.loop-task.rest.now in
+    let tail = take_all (length rest - 1) (drop 1 rest) (omega (arith, length-drop 1 rest)) in
+    let after = drop c.from-n.result (take (length rest - 1) (drop 1 rest)) in
+    pathing_more c.loop-task.invariant c.loop-task-test.true c.from-n.result c.from-n.ensures _ tail _
+    (take_all (length (take (length rest - 1) (drop 1 rest)) - c.from-n.result) after
+    (omega (arith, length-drop c.from-n.result (take (length rest - 1) (drop 1 rest)))))
+    c.path_line.ensures
 
 pub returns : goal.returns
-returns c = pathing_all c.loop-i.invariant (search rules)
+returns c = pathing_all c.loop-task.invariant c.loop-task-test.false

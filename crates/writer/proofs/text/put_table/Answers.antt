@@ -1,27 +1,45 @@
+use mathlib.Core.Path.{◌≡◌, refl}
 use native.Mathlib.Omega.{arith}
-use Rattle.meaning.proofs.Wrote.{gathering_none, counting_more}
-use Rattle.writer.proofs.TableLines.{few_tasks, few_parts, task_asks, end_asks, table_put}
+use lib.ListN.{length, take}
+use borrow.Author.Rules.{rules}
+use Rattle.std.proofs.lemmas.List.{length-take}
+use Rattle.table.specs.Record.{blank_task}
+use Rattle.put.proofs.Pens.{gathered_none, gathered_more}
+use Rattle.writer.proofs.TableLines.{task_text, cells, few_tasks, few_parts, task_asks, end_asks, table_put}
 use Rattle.writer.proofs.text.put_table.Goals as goal
 
-pub loop-i-init : goal.loop-i-init
-loop-i-init c = gathering_none _ _ _ _
+pub shared_ref_as_front-tasks : goal.shared_ref_as_front-tasks
+shared_ref_as_front-tasks c = few_tasks c.args.t.now c.requires.0
 
-pub offset_bounds-t-i : goal.offset_bounds-t-i
-offset_bounds-t-i c = omega (arith, few_tasks c.args.t c.requires.0 c.loop-i.i c.loop-i-test.true)
+pub loop-k-init : goal.loop-k-init
+loop-k-init c = gathered_none task_text (cells c.args.t.now) _
 
-pub bounds-t-i : goal.bounds-t-i
-bounds-t-i c = few_tasks c.args.t c.requires.0 c.loop-i.i c.loop-i-test.true
+pub offset_bounds-tasks-k-index : goal.offset_bounds-tasks-k-index
+offset_bounds-tasks-k-index c =
+    let t = c.args.t.now in
+    omega (arith, few_tasks t c.requires.0, length-take t.n t.tasks, c.loop-k-test.true)
 
-pub put_task-next-requires : goal.put_task-next-requires
-put_task-next-requires c =
-    let few = few_parts c.args.t c.requires.0 c.loop-i.i c.loop-i-test.true in
-    (few.0, few.1, task_asks c.args.t c.requires.1 c.loop-i.invariant c.loop-i-test.true)
+pub put_task-requires : goal.put_task-requires
+put_task-requires c =
+    let t = c.args.t.now in
+    let i : length (take t.n t.tasks) ≡ t.n = search rules in
+    let few = few_parts t i c.requires.0 c.loop-k.k-index c.loop-k-test.true in
+    (few.0, few.1, task_asks t i _ refl c.requires.1 c.loop-k.invariant c.loop-k-test.true)
 
-pub loop-i-preserved : goal.loop-i-preserved
-loop-i-preserved c = counting_more _ _ c.loop-i.invariant c.loop-i-test.true c.put_task-next.ensures
+pub loop-k-preserved : goal.loop-k-preserved
+loop-k-preserved c =
+    let t = c.args.t.now in
+    gathered_more task_text (cells t) _ blank_task refl c.loop-k.invariant c.loop-k-test.true c.put_task.ensures
 
-pub put_end-requires : goal.put_end-requires
-put_end-requires c = end_asks c.args.t c.requires.1 c.loop-i.invariant c.loop-i-test.false
+pub end_line-requires : goal.end_line-requires
+end_line-requires c =
+    let t = c.args.t.now in
+    let i : length (take t.n t.tasks) ≡ t.n = search rules in
+    end_asks t i _ refl c.requires.1 c.loop-k.invariant c.loop-k-test.false
 
 pub returns : goal.returns
-returns c = table_put c.args.t c.requires.1 c.loop-i.invariant c.loop-i-test.false c.put_end.ensures
+returns c =
+    let t = c.args.t.now in
+    let i : length (take t.n t.tasks) ≡ t.n = search rules in
+    let p = table_put t i _ refl c.requires.1 c.loop-k.invariant c.loop-k-test.false c.end_line.ensures in
+    search rules

@@ -1,14 +1,36 @@
+use mathlib.Core.Path.{◌≡◌}
+use lib.ListN.{length, take}
+use borrow.Author.Rules.{rules}
 use Rattle.writer.proofs.PartLines.{head_asks, vertices_ask, edges_ask, task-put}
 use Rattle.writer.proofs.text.put_task.Goals as goal
 
-pub put_task_line-behind-requires : goal.put_task_line-behind-requires
-put_task_line-behind-requires c = head_asks c.args.k _ _ c.requires.2
+pub task_line-requires : goal.task_line-requires
+task_line-requires c =
+    let k = c.args.k.now in
+    let v : length (take k.nv k.vertices) ≡ k.nv = search rules in
+    let e : length (take k.ne k.edges) ≡ k.ne = search rules in
+    head_asks k v e c.args.pen.now c.requires.2
 
-pub put_vertices-between-requires : goal.put_vertices-between-requires
-put_vertices-between-requires c = (c.requires.0, vertices_ask c.args.k c.requires.2 c.put_task_line-behind.ensures)
+pub part_lines-requires : goal.part_lines-requires
+part_lines-requires c =
+    let k = c.args.k.now in
+    let v : length (take k.nv k.vertices) ≡ k.nv = search rules in
+    let e : length (take k.ne k.edges) ≡ k.ne = search rules in
+    rw c.from.ensures (vertices_ask k v e c.args.pen.now c.requires.2 c.task_line.ensures)
 
-pub put_edges-requires : goal.put_edges-requires
-put_edges-requires c = (c.requires.1, edges_ask c.args.k c.requires.2 c.put_task_line-behind.ensures c.put_vertices-between.ensures)
+pub part_lines-requires-2 : goal.part_lines-requires-2
+part_lines-requires-2 c =
+    let k = c.args.k.now in
+    let v : length (take k.nv k.vertices) ≡ k.nv = search rules in
+    let e : length (take k.ne k.edges) ≡ k.ne = search rules in
+    let vertices = rw c.from.ensures at c.part_lines.ensures in
+    rw c.from-2.ensures (edges_ask k v e c.args.pen.now c.requires.2 c.task_line.ensures vertices)
 
 pub returns : goal.returns
-returns c = task-put c.args.k c.requires.2 c.put_task_line-behind.ensures c.put_vertices-between.ensures c.put_edges.ensures
+returns c =
+    let k = c.args.k.now in
+    let v : length (take k.nv k.vertices) ≡ k.nv = search rules in
+    let e : length (take k.ne k.edges) ≡ k.ne = search rules in
+    let vertices = rw c.from.ensures at c.part_lines.ensures in
+    let edges = rw c.from-2.ensures at c.part_lines-2.ensures in
+    task-put k v e c.args.pen.now c.requires.2 c.task_line.ensures vertices edges
