@@ -1,4 +1,3 @@
 pub mod Counting
 pub mod GoesOut
 pub mod NextPlace
-pub mod Remaining

@@ -1,5 +1,4 @@
 pub mod Counts
 pub mod Place
-pub mod Places
 pub mod GoesOut
 pub mod Inner

@@ -1,5 +1,5 @@
 // "Returns how many meet, miss, are unfinished and are refused", for each vertex "in rising order of task and then vertex": the four counts, one verdict
-// after the other, and in `places` the vertices of a table.
+// after the other, and in `places` which vertex is next. On numbers alone: nothing here knows a table.
 #![tactic(auto)]
 
 pub mod places;

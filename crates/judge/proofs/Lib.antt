@@ -4,6 +4,7 @@ pub mod Masking
 pub mod Missing
 pub mod Told
 pub mod OneVertex
+pub mod Remaining
 pub mod SoFar
 pub mod WholeTable
 pub mod Answers

@@ -16,10 +16,10 @@ use Rattle.kinds.specs.Numbers.{verdict_numbers}
 use Rattle.kinds.specs.declared.Lateness.{Lateness}
 use Rattle.counts.specs.declared.Counts.{Counts}
 use Rattle.counts.specs.Counts.{meant_counts}
-use Rattle.counts.specs.Places.{size}
 use Rattle.areas.specs.declared.above.Above.{Above}
 use Rattle.areas.specs.Above.{path_counts, above_of}
 use Rattle.judge.specs.Judged.{AnsweredBy}
+use Rattle.judge.specs.Places.{size}
 
 -- a vertex of the table
 pub record There (ts : Table) (q : Meant.Place) : Type 0 where

@@ -4,4 +4,5 @@ pub mod Desk
 pub mod Demands
 pub mod GoesOut
 pub mod Settled
+pub mod Places
 pub mod Inner

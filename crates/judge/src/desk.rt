@@ -6,10 +6,10 @@ ghost use Rattle.meaning.specs.Areas.{Wrote};
 ghost use Rattle.judge.specs.Desk.{table_room};
 ghost use Rattle.judge.specs.Inner.{table_output};
 
+use crate::places::Places;
 use crate::vertex::judge_vertex;
 use bounds::{DESK_BUDGET, DESK_WORK, MOST_WITNESS};
 use counts::Counts;
-use counts::places::Places;
 use desk_frames::{counts_line, vertex_lines};
 use kinds::Verdict;
 use put::Pen;

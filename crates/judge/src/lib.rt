@@ -9,6 +9,7 @@
 mod desk;
 mod higher_tasks;
 mod lower_tasks;
+pub mod places;
 mod room;
 mod vertex;
 mod whole;

@@ -4,8 +4,8 @@ ghost use Rattle.meaning.specs.Bounds.{verdict_line, path_line};
 ghost use Rattle.table.specs.Inner.{table_of, Held};
 ghost use Rattle.judge.specs.Desk.{table_room};
 
+use crate::places::Places;
 use bounds::{COUNTS_LINE, VERDICT_LINE};
-use counts::places::Places;
 use kinds::{TaskNumber, Ticks};
 use table::Table;
 

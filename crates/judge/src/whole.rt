@@ -3,10 +3,10 @@
 ghost use Rattle.table.specs.Inner.{table_of, Held};
 ghost use Rattle.judge.specs.Inner.{TableCounted};
 
+use crate::places::Places;
 use crate::vertex::judge_vertex;
 use bounds::MOST_WITNESS;
 use counts::Counts;
-use counts::places::Places;
 use kinds::Verdict;
 use table::Table;
 

@@ -1,7 +1,7 @@
 use mathlib.Core.Path.{sym, subst}
-use Rattle.counts.specs.Places.{Reached}
-use Rattle.counts.proofs.Remaining.{reached_first}
-use Rattle.counts.proofs.places.Places.of.Goals as goal
+use Rattle.judge.specs.Places.{Reached}
+use Rattle.judge.proofs.Remaining.{reached_first}
+use Rattle.judge.proofs.places.Places.of.Goals as goal
 
 pub invariant_of-result : goal.invariant_of-result
 invariant_of-result c = subst (Reached c.args.table.now) (sym c.first.ensures) (reached_first c.args.table.now c.requires)

@@ -18,7 +18,7 @@ use Rattle.table.specs.Inner.{table_of, Held}
 use Rattle.table.proofs.Records.{held_count, held_few}
 use Rattle.table.proofs.Vertices.{own_task, own_size, own_few}
 use Rattle.counts.specs.Place.{first_place, next_place, Within}
-use Rattle.counts.specs.Places.{size, next_in, remaining, Reached}
+use Rattle.judge.specs.Places.{size, next_in, remaining, Reached}
 use Rattle.counts.proofs.NextPlace.{at, next-vertex, next-task}
 
 pub remaining-first : (ts : Table) → remaining ts first_place ≡ places ts

@@ -1,8 +1,8 @@
 use mathlib.Core.Path.{sym, ap, ◌∙◌}
 use lib.ListN.{length}
 use borrow.Author.Rules.{rules}
-use Rattle.counts.proofs.Remaining.{reached_within, reached_turn, reached_next}
-use Rattle.counts.proofs.places.PlacesIterator.next.Goals as goal
+use Rattle.judge.proofs.Remaining.{reached_within, reached_turn, reached_next}
+use Rattle.judge.proofs.places.PlacesIterator.next.Goals as goal
 
 pub next-self-inside-requires : goal.next-self-inside-requires
 next-self-inside-requires c = reached_within c.self.invariant c.if-self-task.false
