@@ -8,8 +8,9 @@
 // refused.
 #![tactic(auto)]
 
-ghost use Rattle.std.specs.Prelude.{◌≡◌, ◌≤◌, ◌<◌, length, drop};
+ghost use Rattle.std.specs.Prelude.{◌≡◌, ◌≤◌, ◌<◌, length, drop, IfErr};
 ghost use Rattle.meaning.specs.Bounds.{most_vertices, most_edges};
+ghost use Rattle.table.specs.Record.{no_task};
 ghost use Rattle.table.specs.Inner.{edge_cells};
 ghost use Rattle.frames.specs.Frames.{form_to};
 ghost use Rattle.lines.specs.Parts.{behind, vertex_lines, edge_lines, plain_lines, link_lines, task_lines, filled, taken_with};
@@ -114,9 +115,7 @@ fn read_plain(
     }
     let place = from + v * PART_BYTES;
     read_edges(digits, text, place, v, &task.vertices, e, &mut task.edges)?;
-    task.m = m;
-    task.nv = v as u16;
-    task.ne = e as u16;
+    *task = table::task_of(m, v as u16, e as u16, task.vertices, task.edges);
     Ok(TaskLines {
         count: v + e,
         bytes: (v + e) * PART_BYTES,
@@ -175,16 +174,14 @@ fn read_links(
         task.vertices[i] = link.vertex;
         task.edges[i] = link_edge(form, n, i, link.p);
     }
-    task.m = Ticks(0);
-    task.nv = n as u16;
-    task.ne = n as u16;
+    *task = table::task_of(Ticks(0), n as u16, n as u16, task.vertices, task.edges);
     Ok(TaskLines {
         count: n,
         bytes: n * LINK_BYTES,
     })
 }
 
-// The lines of a task whose own says `head`, into `task`, whatever it held: in a `Result` it would be copied on its way to the table.
+// The lines of a task whose own says `head`, into `task`, whatever it held: in a `Result` it would be copied on its way to the table. No task where they stop.
 pub fn read_task(
     digits: &Digits,
     text: &[u8],
@@ -193,10 +190,15 @@ pub fn read_task(
     task: &mut Task,
 ) -> Result<TaskLines, Stopped>
     requires { (from ≤ length text.now) × (1 ≤ head.v) × (head.v ≤ most_vertices) × (head.e ≤ most_edges) }
-    ensures { taken_with result task.new ≡ task_lines head (drop from text.now) }
+    ensures lines { taken_with result task.new ≡ task_lines head (drop from text.now) }
+    ensures none { IfErr result (λ _. task.new ≡ no_task) }
 {
-    match head.form {
+    let lines = match head.form {
         Form::Plain => read_plain(digits, text, from, head.v, head.e, head.m, task),
         form => read_links(digits, text, from, form, head.v, task),
+    };
+    if lines.is_err() {
+        *task = table::no_task();
     }
+    lines
 }

@@ -11,4 +11,4 @@ pub loop-i-preserved : goal.loop-i-preserved
 loop-i-preserved c = links_more c.loop-i.invariant c.loop-i-test.true c.link_line-line.ensures c.in_ok-link.ensures c.link_edge.ensures
 
 pub returns : goal.returns
-returns c = links_end c.loop-i.invariant c.loop-i-test.false
+returns c = rw (c.task_of.ensures) (links_end c.loop-i.invariant c.loop-i-test.false)

@@ -55,4 +55,4 @@ pub returns : goal.returns
 returns c =
     let test = tested (goal.at.returns c).After-mask_covered ∙ c.if-not-mask_covered.false in
     let all = ap (λ r. filled r c.read_edges.new.edges) c.in_ok-read_edges.was in
-    all_edges (edges (goal.at.returns c).After-read_edges test) all
+    rw (c.task_of.ensures) (all_edges (edges (goal.at.returns c).After-read_edges test) all)

@@ -34,7 +34,7 @@ lines c =
     record {
       frame = record { turn = c.loop-head.invariant; gives = sym (c.in-Ok-Some.is ∙ ap Ok c.in-Ok-Some.field-0-is) ∙ c.task_or_end_line.ensures };
       place = ap (λ n. c.loop-head.at + n) c.bytes.ensures;
-      gives = c.read_task.ensures;
+      gives = c.read_task.ensures.lines;
     }
 
 pub loop-head-init : goal.loop-head-init
