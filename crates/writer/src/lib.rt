@@ -16,7 +16,11 @@ use text::put_table;
 pub fn write(t: &Table, out: &mut [u8]) -> Result<usize, RefusedAt>
     ensures { Writes t.now out.old result out.new }
 {
-    let need = check_table(t)?;
+    // No `?`: the must-fail edit turns what is handed on, and a wrong refusal behind `?` would be refused for its form.
+    let need = match check_table(t) {
+        Ok(need) => need,
+        Err(at) => return Err(at),
+    };
     if out.len() < need {
         let place = need as u32;
         return Err(RefusedAt {
