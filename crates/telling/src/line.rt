@@ -1,6 +1,5 @@
 // The line that a refusal names, as it stands in the text.
 use std::fmt;
-use std::fmt::Write;
 
 // How much of a line is shown.
 const MOST_SHOWN: usize = 60;
@@ -17,6 +16,24 @@ fn is_plain(b: u8) -> bool {
     b != b'\\' && 0x20 <= b && b <= 0x7e
 }
 
+// The bytes as text, where each is plain.
+fn plain_text(bytes: &[u8]) -> Option<&str> {
+    let words = std::str::from_utf8(bytes).ok()?;
+    words.bytes().all(is_plain).then_some(words)
+}
+
+// Each byte as `\x` and two digits: `{b:02x}` would write a 0 before one digit apart.
+fn write_coded<W: fmt::Write>(f: &mut fmt::Formatter<W>, bytes: &[u8]) -> fmt::Result {
+    for b in bytes {
+        if *b < 0x10 {
+            write!(f, "\\x0{b:x}")?;
+        } else {
+            write!(f, "\\x{b:x}")?;
+        }
+    }
+    Ok(())
+}
+
 impl Line<'_> {
     // The line without its line feed, or none where the text ends before it.
     fn bytes(&self) -> Option<&[u8]> {
@@ -27,7 +44,7 @@ impl Line<'_> {
     }
 }
 
-// The line's own text on a line of its own, each byte that isn't plain as `\x` and two digits.
+// The line's own text on a line of its own, each run of plain bytes at once.
 impl fmt::Display for Line<'_> {
     fn fmt<W: fmt::Write>(&self, f: &mut fmt::Formatter<W>) -> fmt::Result {
         write!(f, "    ")?;
@@ -37,11 +54,11 @@ impl fmt::Display for Line<'_> {
         if line.is_empty() {
             return writeln!(f, "(an empty line)");
         }
-        for b in line.iter().take(MOST_SHOWN) {
-            if is_plain(*b) {
-                f.write_char(char::from(*b))?;
-            } else {
-                write!(f, "\\x{b:02x}")?;
+        let shown = &line[..line.len().min(MOST_SHOWN)];
+        for run in shown.chunk_by(|a, b| is_plain(*a) == is_plain(*b)) {
+            match plain_text(run) {
+                Some(words) => f.write_str(words)?,
+                None => write_coded(f, run)?,
             }
         }
         if MOST_SHOWN < line.len() {

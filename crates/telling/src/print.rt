@@ -21,15 +21,18 @@ pub(crate) fn say<D: Display + Drop>(words: D) {
 
 // How many there are of something, with an s unless it is one: "1 tick", "2 ticks".
 #[derive(Drop)]
-pub(crate) struct Plural(pub u64, pub &'static str);
+pub(crate) enum Plural {
+    Ticks(u64),
+    Groups(u64),
+}
 
 impl fmt::Display for Plural {
     fn fmt<W: fmt::Write>(&self, f: &mut fmt::Formatter<W>) -> fmt::Result {
-        let Plural(n, name) = self;
-        write!(f, "{n} {name}")?;
-        if *n != 1 {
-            write!(f, "s")?;
+        match self {
+            Plural::Ticks(1) => write!(f, "1 tick"),
+            Plural::Ticks(n) => write!(f, "{n} ticks"),
+            Plural::Groups(1) => write!(f, "1 group"),
+            Plural::Groups(n) => write!(f, "{n} groups"),
         }
-        Ok(())
     }
 }

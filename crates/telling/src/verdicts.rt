@@ -58,10 +58,10 @@ impl Judged<'_> {
     // Beside a meets how late at worst, and how much earlier than the deadline that is.
     fn write_meets<W: fmt::Write>(&self, f: &mut fmt::Formatter<W>, groups: u32) -> fmt::Result {
         let d = self.job.d.0;
-        let examined = Plural(u64::from(groups), "group");
-        write!(f, "meets its deadline of {}", Plural(u64::from(d), "tick"))?;
+        let examined = Plural::Groups(u64::from(groups));
+        write!(f, "meets its deadline of {}", Plural::Ticks(u64::from(d)))?;
         let Some(worst) = self.worst else {
-            let budget = Plural(u64::from(DESK_BUDGET), "group");
+            let budget = Plural::Groups(u64::from(DESK_BUDGET));
             return writeln!(
                 f,
                 " ({examined} examined; its worst finish wasn't found within {budget})"
@@ -86,9 +86,9 @@ impl Judged<'_> {
         let own = u64::from(self.job.e.0);
         let masked = self.masked.map_or(0, |masked| u64::from(masked.ticks.0));
         let due = load.saturating_add(own + masked);
-        write!(f, "    {} of work", Plural(due, "tick"))?;
+        write!(f, "    {} of work", Plural::Ticks(due))?;
         self.write_masked(f)?;
-        let over = Plural(due.saturating_sub(u64::from(self.job.d.0)), "tick");
+        let over = Plural::Ticks(due.saturating_sub(u64::from(self.job.d.0)));
         writeln!(
             f,
             " are due by the deadline, {own} of them its own: {over} too many"
@@ -102,11 +102,11 @@ impl Judged<'_> {
         groups: u32,
         cells: u32,
     ) -> fmt::Result {
-        let deadline = Plural(u64::from(self.job.d.0), "tick");
+        let deadline = Plural::Ticks(u64::from(self.job.d.0));
         write!(
             f,
             "MISSES its deadline of {deadline} ({} examined)",
-            Plural(u64::from(groups), "group")
+            Plural::Groups(u64::from(groups))
         )?;
         let releases = self.releases(cells);
         if releases.cells.is_empty() {
@@ -125,7 +125,7 @@ impl fmt::Display for Judged<'_> {
             Verdict::Meets(groups) => self.write_meets(f, groups),
             Verdict::Misses(groups, cells) => self.write_misses(f, groups, cells),
             Verdict::Unfinished(budget) => {
-                let groups = Plural(u64::from(budget), "group");
+                let groups = Plural::Groups(u64::from(budget));
                 writeln!(
                     f,
                     "UNFINISHED: the search was cut short after {groups}; this is neither a yes nor a no"
