@@ -23,6 +23,17 @@ pub(crate) struct Areas {
     pub(crate) out: [u8; LONGEST_OUTPUT],
 }
 
+impl Areas {
+    // A function of its own, so that who calls it sees the areas' lengths and not their cells.
+    pub(crate) fn room() -> Areas {
+        Areas {
+            work: [0; WORK_CELLS],
+            witness: [0; WITNESS_CELLS],
+            out: [0; LONGEST_OUTPUT],
+        }
+    }
+}
+
 // A cell of an area, and the mark of the cell at a place: a work cell, a witness cell, or a byte of a text that is written.
 pub(crate) trait Cell: Copy + PartialEq {
     fn mark(i: usize) -> Self;

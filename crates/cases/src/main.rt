@@ -29,8 +29,6 @@ mod writing;
 use crate::lent::Areas;
 use crate::modes::{Mode, UnknownMode};
 use crate::print::end_line;
-use bounds::LONGEST_OUTPUT;
-use lent::{WITNESS_CELLS, WORK_CELLS};
 use sequences::{HEADER_BYTES, Header, case_end};
 
 fn say_unknown(letter: u8) {
@@ -67,11 +65,7 @@ fn answer_all(bytes: &[u8], areas: &mut Areas) {
 
 fn main() {
     let mut bytes = sequences::room();
-    let mut areas = Areas {
-        work: [0; WORK_CELLS],
-        witness: [0; WITNESS_CELLS],
-        out: [0; LONGEST_OUTPUT],
-    };
+    let mut areas = Areas::room();
     let n = io::read_full(0, &mut bytes);
     answer_all(&bytes[..n], &mut areas);
 }
