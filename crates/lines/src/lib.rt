@@ -181,7 +181,8 @@ fn read_links(
     })
 }
 
-// The lines of a task whose own says `head`, into `task`, whatever it held: in a `Result` it would be copied on its way to the table. No task where they stop.
+// The lines of a task whose own says `head`, into `task`, whatever it held: in a `Result` it would be copied on its way to the table. Where they stop
+// there is no task.
 pub fn read_task(
     digits: &Digits,
     text: &[u8],

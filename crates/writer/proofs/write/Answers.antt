@@ -1,4 +1,4 @@
-use mathlib.Core.Path.{sym, subst}
+use mathlib.Core.Path.{subst}
 use native.Mathlib.Omega.{arith}
 use Rattle.checks.specs.Checks.{TableChecked}
 use Rattle.writer.proofs.Answers.{answer_broken, answer_sound, answer-bytes, answer_few, answer_short, answer-written}
