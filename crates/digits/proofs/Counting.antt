@@ -1,13 +1,14 @@
--- The digits of a line, counted pair by pair: from what is left of the text before a pair.
-use mathlib.Core.Path.{◌≡◌, refl, sym, ap, subst, ◌∙◌}
-use Prim.Native.Nat.{ℕ, zero, suc, ◌+◌, ◌*◌, min, ◌≤◌, ◌<◌}
+-- The digits of a line, counted pair by pair from a place in the text.
+use mathlib.Core.Path.{◌≡◌, refl, sym, ap, ◌∙◌}
+use Prim.Native.Nat.{ℕ, zero, suc, ◌+◌, ◌-◌, ◌≤◌, ◌<◌}
 use native.Mathlib.Omega.{arith}
 use mathlib.Core.Option.{Option, none, some}
-use mathlib.Core.List.{List, [], ◌∷◌, ◌++◌}
-use lib.ListN.{length, get_or}
+use mathlib.Core.List.{List, [], ◌∷◌}
+use lib.ListN.{length, get_or, drop, drop_of_length-le}
+use lib.Seq.{drop-cons}
 use borrow.Author.Tests.{ne_eqb}
-use Rattle.std.specs.Prelude.{Some, None}
 use Rattle.meaning.specs.Text.{line_feed, byte_with}
+use Rattle.std.specs.Prelude.{Some, None}
 use Rattle.digits.specs.Digits.{worth_of, frame_at, digit_count, some_digits}
 use Rattle.digits.proofs.Worths.{digit-none, digit_some}
 use Rattle.digits.proofs.Spelled.{frame_feed, byte_none}
@@ -33,78 +34,63 @@ more_count : (i x y : ℕ) (o : Option (List ℕ)) → digit_count (i + 2) o ≡
 more_count i x y none = refl
 more_count i x y (some f) = omega arith
 
--- the pair p off the front of r, and what is left behind it; the last may be one byte alone
-pub data Pair : List ℕ → List ℕ → List ℕ → Type 0 where
-  one : (a : ℕ) → Pair (a ∷ []) (a ∷ []) []
-  two : (a b : ℕ) (t : List ℕ) → Pair (a ∷ b ∷ t) (a ∷ b ∷ []) t
+-- before the pair at i: counting on from there gives the whole line's digits
+pub record Counted (s : List ℕ) (i : ℕ) : Type 0 where
+  pub inside : i ≤ length s
+  pub going : digit_count i (frame_at (drop i s)) ≡ digit_count 0 (frame_at s)
 
-pub pair_off : (r p t : List ℕ) → r ≡ p ++ t → length p ≡ min 2 (length r) → 0 < length r → Pair r p t
-pair_off r [] t e l h = absurd (omega arith)
-pair_off r (a ∷ []) [] e l h = subst (λ (z : List ℕ). Pair z (a ∷ []) []) (sym e) (one a)
-pair_off r (a ∷ []) (x ∷ t) e l h = absurd (omega (arith, ap length e))
-pair_off r (a ∷ b ∷ []) t e l h = subst (λ (z : List ℕ). Pair z (a ∷ b ∷ []) t) (sym e) (two a b t)
-pair_off r (a ∷ b ∷ c ∷ p) t e l h = absurd (omega arith)
+pub count_first : (s : List ℕ) → Counted s 0
+count_first s = record { inside = omega arith; going = refl }
 
-pub pair_some : {r p t : List ℕ} → Pair r p t → 0 < length p
-pair_some (one a) = omega arith
-pair_some (two a b t) = omega arith
+module _ {s : List ℕ} {i : ℕ} (counted : Counted s i) where
+  abbrev high : ℕ
+  high = get_or s i 0
 
--- i digits stand before r: going on from here gives the whole line's
-pub record Counted (s : List ℕ) (i : ℕ) (r : List ℕ) : Type 0 where
-  pub going : digit_count i (frame_at r) ≡ digit_count 0 (frame_at s)
+  abbrev low : ℕ
+  low = get_or s (i + 1) 0
 
-pub count_first : {s r : List ℕ} {i : ℕ} → i ≡ 0 → r ≡ s → Counted s i r
-count_first e f = record { going = rw (e, f) }
+  pub count_end : length s ≤ i → 0 ≡ digit_count 0 (frame_at s)
+  count_end h = rw (← counted.going, drop_of_length-le s h)
 
-pub count_end : {s r : List ℕ} {i : ℕ} → Counted s i r → length r ≡ 0 → 0 ≡ digit_count 0 (frame_at s)
-count_end {s} {r} {i} c e = go r e c.going
-  where
-    go : (r : List ℕ) → length r ≡ 0 → digit_count i (frame_at r) ≡ digit_count 0 (frame_at s) → 0 ≡ digit_count 0 (frame_at s)
-    go [] e c = c
-    go (a ∷ r) e c = absurd (omega arith)
+  module _ (more : i < length s) where
+    pub count_feed : high ≡ line_feed → i ≡ digit_count 0 (frame_at s)
+    count_feed e =
+        let d : drop i s ≡ line_feed ∷ drop (suc i) s = drop-cons s i 0 more ∙ ap (λ (z : ℕ). z ∷ drop (suc i) s) e in
+        rw (← counted.going, d, frame_feed (drop (suc i) s)) (omega arith)
 
-module _ {s r p t : List ℕ} {i : ℕ} (counted : Counted s i r) (off : Pair r p t) where
-  abbrev Says : ℕ → Type 0
-  Says n = n ≡ digit_count 0 (frame_at s)
+    module _ (n : high ≡ line_feed → ⊥) where
+      pub count_one : length s - i ≡ 1 → 0 ≡ digit_count 0 (frame_at s)
+      count_one l =
+          let k : length s ≤ suc i = omega arith in
+          let d : drop i s ≡ high ∷ [] = drop-cons s i 0 more ∙ ap (λ (z : List ℕ). high ∷ z) (drop_of_length-le s k) in
+          sym (simp (d, ne_eqb high line_feed n)) ∙ counted.going
 
-  pub count_feed : get_or p 0 0 ≡ line_feed → Says i
-  count_feed e = go off e counted.going
-    where
-      fed : (t : List ℕ) → Says (digit_count i (frame_at (line_feed ∷ t))) → Says i
-      fed t c = let o : i ≡ i + 2 * 0 = omega arith in o ∙ (rw (frame_feed t) at c)
+      module _ (pairs : length s - i ≡ 1 → ⊥) where
+        both_there : i + 1 < length s
+        both_there = omega arith
 
-      go : {r p t : List ℕ} → Pair r p t → get_or p 0 0 ≡ line_feed → Says (digit_count i (frame_at r)) → Says i
-      go (one a) e c = fed [] (subst (λ (z : ℕ). Says (digit_count i (frame_at (z ∷ [])))) e c)
-      go (two a b t) e c = fed (b ∷ t) (subst (λ (z : ℕ). Says (digit_count i (frame_at (z ∷ b ∷ t)))) e c)
+        two : drop i s ≡ high ∷ low ∷ drop (i + 2) s
+        two =
+            let p : drop (suc i) s ≡ get_or s (suc i) 0 ∷ drop (suc (suc i)) s = drop-cons s (suc i) 0 (omega (arith, both_there)) in
+            let q : suc i ≡ i + 1 = omega arith in
+            let r : suc (suc i) ≡ i + 2 = omega arith in
+            drop-cons s i 0 more ∙ ap (λ (z : List ℕ). high ∷ z) (p ∙ rw (r, q))
 
-  module _ (n : get_or p 0 0 ≡ line_feed → ⊥) where
-    pub count_short : length p < 2 → Says 0
-    count_short l = go off n l counted.going
-      where
-        go : {r p t : List ℕ} → Pair r p t → (get_or p 0 0 ≡ line_feed → ⊥) → length p < 2 → Says (digit_count i (frame_at r)) → Says 0
-        go (one a) n l c = sym (rw (ne_eqb a line_feed n)) ∙ c
-        go (two a b t) n l c = absurd (omega arith)
+        pub count_high : {v : ℕ} → v ≡ worth_of high → 15 < v → 0 ≡ digit_count 0 (frame_at s)
+        count_high {v} e l =
+            let w : 15 < worth_of high = omega arith in
+            sym (simp (two, ne_eqb high line_feed n, digit-none high w)) ∙ counted.going
 
-    module _ (whole : 2 ≤ length p) where
-      -- the bytes of a whole pair
-      whole_pair : r ≡ get_or p 0 0 ∷ get_or p 1 0 ∷ t
-      whole_pair = go off whole
-        where
-          go : {r p t : List ℕ} → Pair r p t → 2 ≤ length p → r ≡ get_or p 0 0 ∷ get_or p 1 0 ∷ t
-          go (one a) l = absurd (omega arith)
-          go (two a b t) l = refl
+        pub count_low : {v : ℕ} → v ≡ worth_of low → 15 < v → 0 ≡ digit_count 0 (frame_at s)
+        count_low {v} e l =
+            let w : 15 < worth_of low = omega arith in
+            sym (simp (two, ne_eqb high line_feed n, digit-none low w, byte_none)) ∙ counted.going
 
-      pub count_high : 15 < worth_of (get_or p 0 0) → Says 0
-      count_high w = sym (simp (whole_pair, ne_eqb _ line_feed n, digit-none _ w)) ∙ counted.going
-
-      pub count_low : 15 < worth_of (get_or p 1 0) → Says 0
-      count_low w = sym (simp (whole_pair, ne_eqb _ line_feed n, digit-none _ w, byte_none)) ∙ counted.going
-
-      pub count_more : worth_of (get_or p 0 0) ≤ 15 → worth_of (get_or p 1 0) ≤ 15 → Counted s (i + 2) t
-      count_more v w =
-          let x : worth_of (get_or p 0 0) < 16 = omega arith in
-          let y : worth_of (get_or p 1 0) < 16 = omega arith in
-          let same : digit_count (i + 2) (frame_at t) ≡ digit_count i (frame_at r) =
-          more_count i (worth_of (get_or p 0 0)) (worth_of (get_or p 1 0)) (frame_at t)
-          ∙ sym (simp (whole_pair, ne_eqb (get_or p 0 0) line_feed n, digit_some (get_or p 0 0) x, digit_some (get_or p 1 0) y)) in
-          record { going = same ∙ counted.going }
+        pub count_more : {v w : ℕ} → v ≡ worth_of high → v ≤ 15 → w ≡ worth_of low → w ≤ 15 → Counted s (i + 2)
+        count_more {v} {w} e l f m =
+            let x : worth_of high < 16 = omega arith in
+            let y : worth_of low < 16 = omega arith in
+            let rest = frame_at (drop (i + 2) s) in
+            let same : digit_count (i + 2) rest ≡ digit_count i (frame_at (drop i s)) =
+            simp (two, ne_eqb high line_feed n, digit_some high x, digit_some low y) (more_count i (worth_of high) (worth_of low) rest) in
+            record { inside = omega (arith, both_there); going = same ∙ counted.going }

@@ -66,11 +66,13 @@ impl Digits {
     pub fn line_digits(&self, text: &[u8]) -> Option<usize>
         ensures { result ≡ some_digits (digit_count 0 (frame_at text.now)) }
     {
-        for (k, pair) in text.chunks(2).enumerate() {
-            if pair[0] == b'\n' {
-                return if k == 0 { None } else { Some(2 * k) };
+        // By its places: `chunks(2)` asks at each pair how much is left, and a line that is refused may be long.
+        for k in 0..text.len().div_ceil(2) {
+            let i = 2 * k;
+            if text[i] == b'\n' {
+                return if k == 0 { None } else { Some(i) };
             }
-            if pair.len() < 2 || 15 < self.worth(pair[0]) || 15 < self.worth(pair[1]) {
+            if text.len() - i == 1 || 15 < self.worth(text[i]) || 15 < self.worth(text[i + 1]) {
                 return None;
             }
         }

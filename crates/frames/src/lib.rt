@@ -113,7 +113,9 @@ impl Frame {
         n < text.len() && text[0] == b'0' && text[1] == self.kind() && text[n] == b'\n'
     }
 
-    // How a line is refused that should be its own: for what it is (1, 2, or 6 where there is none), and else by the row `then`.
+    // How a line is refused that should be its own: for what it is (1, 2, or 6 where there is none), and else by the row `then`. No line that is taken comes
+    // here, and put into its callers it would slow them down.
+    #[inline(never)]
     #[tactic(auto, using(digits::proofs::Counting::number_of, digits::proofs::Counting::none_of), unfolding(crate::specs::Frames::fault_of))]
     fn fault(self, digits: &Digits, text: &[u8], then: Refusal) -> Refusal
         ensures { result ≡ fault_of text.now (digits_of self) then }
