@@ -17,7 +17,9 @@ pub struct Digits {
 }
 
 impl Digits {
-    pub fn new() -> Digits {
+    pub fn new() -> Digits
+        ensures { Worths result.worths }
+    {
         let mut worths = [FOREIGN; 256];
         worths[48] = 0;
         worths[49] = 1;
